@@ -1,0 +1,3 @@
+pub mod Table
+pub mod GoodSigns
+pub mod Examples

@@ -1,0 +1,4 @@
+pub mod Ranks
+pub mod Spellings
+pub mod Signs
+pub mod Ranges

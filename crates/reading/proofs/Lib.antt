@@ -1,0 +1,4 @@
+mod Layouts
+mod Means
+mod Turns
+mod Rooms

@@ -1,0 +1,5 @@
+// The reading of an expression: one loop over explicit frames, equal to the definition by recursive descent.
+
+pub mod frames;
+pub mod machine;
+pub mod moves;
