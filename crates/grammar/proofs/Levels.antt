@@ -10,7 +10,7 @@ use Rattle.std.specs.declared.result.Result.the-variants.{Ok, Err}
 use Rattle.refusals.specs.declared.Denial.{Denial}
 use Rattle.tokens.specs.declared.Token.{Token}
 use Rattle.tokens.specs.Looks.{Field, fieldOf, levelOf}
-use Rattle.hosts.specs.Answers.{Lawful}
+use Rattle.hosts.specs.Lawful.{Lawful}
 
 pub level-length : (page : List ℕ) (ts : List Token) (p e : ℕ) → length (levelOf page ts p e) ≤ e - p
 level-length page ts p e = omega (arith, length-map (take (e - p) (drop p ts)) (fieldOf page), length-take (e - p) (drop p ts))

@@ -32,7 +32,7 @@ use Rattle.operators.specs.Signs.{signAt, GoodSign}
 use Rattle.operators.proofs.GoodSigns.{good-sign}
 use Rattle.operators.specs.Ranks.{rankOf, leftKeeps}
 use Rattle.operators.specs.Ranges.{rangeEnds}
-use Rattle.hosts.specs.Answers.{Lawful}
+use Rattle.hosts.specs.Lawful.{Lawful}
 use Rattle.grammar.specs.Heads.{operandOnly, rangeEnd, referenceHead, rangeHead, groupHead, pathBy, pathHead, nameHead, markHead, headOf, headBy, headAt}
 use Rattle.grammar.specs.Tails.{takes, tailOf, tailAt}
 use Rattle.grammar.specs.declared.Head.{Head}

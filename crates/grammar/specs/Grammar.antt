@@ -172,7 +172,7 @@ module _ (reading : Part → List Field → Result ℕ Denial) (page : List ℕ)
   readTask = tied left (refused refusal.SheetFull) grammar
 
   -- one expression from the page's first token on, as far as it goes
-  unfoldable pub readExpr : Bool → Outcome
+  abbrev pub readExpr : Bool → Outcome
   readExpr f = readTask (expr f 0 0 (length ts))
 
 -- where a reading stopped, or why it was refused

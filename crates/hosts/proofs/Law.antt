@@ -1,15 +1,16 @@
 -- The answers of the host for statements are lawful. Assumes nothing.
-use mathlib.Core.Path.{_≡_, refl, sym, ap, subst, _∙_}
+use mathlib.Core.Path.{_≡_, sym, ap, subst, _∙_}
 use mathlib.Core.List.{List, [], _∷_}
-use mathlib.Core.Bool.{Bool, true, false, cond}
-use mathlib.Core.Logic.{_⊎_, inl, inr, ⊎-elim}
+use mathlib.Core.Bool.{Bool, true, false}
 use Prim.Native.Nat.{ℕ, zero, suc, _+_, _≤_, _<_}
 use native.Mathlib.Omega.{arith}
 use lib.Dec.{eqb, ltb}
 use lib.ListN.{length, drop}
 use borrow.Author.Tests.{ltb-true, ltb-false}
-use Rattle.std.specs.declared.option.Option.the-variants.{Some, None}
+use Rattle.std.specs.declared.option.Option.the-variants.{Some}
+use Rattle.std.specs.declared.result.Result.{Result}
 use Rattle.std.specs.declared.result.Result.the-variants.{Ok, Err}
+use Rattle.refusals.specs.declared.Denial.{Denial}
 use Rattle.std.specs.Finite.{nth}
 use Rattle.std.proofs.shelf.Lists.{length-map, length-drop}
 use Rattle.std.proofs.shelf.Ways.{tells}
@@ -22,11 +23,12 @@ use Rattle.tokens.specs.declared.Word.the-variants.{Mut}
 use Rattle.tokens.specs.declared.Look.{Look}
 use Rattle.tokens.specs.declared.Look.the-variants.{Name, Mark, Open}
 use Rattle.tokens.specs.Looks.{Field}
-use Rattle.hosts.specs.Answers.{looks, Opens, Nested, Whole, Lawful}
-use Rattle.hosts.specs.Runs.{colon, ampersand, less, greater, IsSegment, IsSegments, oneSegment, moreSegments, IsPath, relative, rooted, IsType, named, reference, mutable, IsGroup, group, IsBlock, IsAlone, IsPattern, alone, pathOnly, pathAndGroup, IsBlockWord, IsKeyword, wordAndBlock, IsArguments, angled, IsRun}
+use Rattle.hosts.specs.Lawful.{looks, Opens, Whole, LawfulLength, LawfulDenial, Lawful}
+use Rattle.hosts.specs.Runs.{colon, ampersand, less, greater, IsSegment, IsSegments, oneSegment, moreSegments, IsPath, relative, rooted, IsType, named, reference, mutable, IsGroup, group, IsAlone, alone, pathOnly, pathAndGroup, IsBlockWord, wordAndBlock, IsArguments, angled, IsRun}
 use Rattle.hosts.specs.Statements.{lookRole, lengthOf, answer, statementReading}
+use Rattle.hosts.proofs.Levels.{nth-drop}
 use Rattle.hosts.proofs.Roles.{tested, segment-role, block-role, alone-role}
-use Rattle.hosts.proofs.Longest.{nth-drop, group-first, run-found}
+use Rattle.hosts.proofs.Longest.{group-first, run-found}
 
 -- A run ends within the level
 
@@ -181,6 +183,7 @@ statement-lawful part l = at (lengthOf part (looks l)) (run-found part (looks l)
       where
         none : eqb k 0 ≡ true → Lawful l (answer k)
         none t = rw t (record { host = (omega arith, omega arith); code = (omega arith, omega arith) })
+
         some : eqb k 0 ≡ false → Lawful l (answer k)
         some t =
             let pos : 0 < k = grind (arith, tells) in
@@ -188,5 +191,12 @@ statement-lawful part l = at (lengthOf part (looks l)) (run-found part (looks l)
             rw t (record {
               some = pos;
               within = omega (arith, run-within part (looks l) k run, length-map l (λ f. f .look));
-              whole = λ nested. run-whole part (looks l) k run (nested .inner)
+              whole = λ nested. run-whole part (looks l) k run (nested .inner);
             })
+
+-- what the law says of an answer that is known
+pub lawful-length : (l : List Field) (r : Result ℕ Denial) → Lawful l r → (n : ℕ) → Ok n ≡ r → LawfulLength l n
+lawful-length l r w n e = subst (λ (x : Result ℕ Denial). Lawful l x) (sym e) w
+
+pub lawful-denial : (l : List Field) (r : Result ℕ Denial) → Lawful l r → (d : Denial) → Err d ≡ r → LawfulDenial d
+lawful-denial l r w d e = subst (λ (x : Result ℕ Denial). Lawful l x) (sym e) w

@@ -1,16 +1,14 @@
 -- The answers of the host for statements are the longest runs. Assumes nothing.
 use mathlib.Core.Path.{_≡_, refl, sym, ap, subst, _∙_}
 use mathlib.Core.List.{List, [], _∷_}
-use mathlib.Core.Bool.{Bool, true, false, cond, _&&_}
-use mathlib.Core.Logic.{_⊎_, inl, inr, ⊎-elim}
-use Prim.Native.Nat.{ℕ, zero, suc, _+_, _≤_, _<_}
+use mathlib.Core.Bool.{Bool, true, false, cond}
+use mathlib.Core.Logic.{_⊎_, ⊎-elim}
+use Prim.Native.Nat.{ℕ, _+_, _≤_, _<_}
 use native.Mathlib.Omega.{arith}
 use lib.Dec.{eqb, leb}
 use lib.ListN.{length, drop}
-use borrow.Author.Tests.{leb-true, le-leb}
 use Rattle.std.specs.declared.option.Option.the-variants.{Some}
 use Rattle.std.specs.Finite.{nth}
-use Rattle.std.proofs.shelf.Tests.{and-parts}
 use Rattle.std.proofs.shelf.Ways.{tells}
 use Rattle.refusals.specs.declared.Part.{Part}
 use Rattle.refusals.specs.declared.Part.the-variants.{Path, TypeName, Pattern, Block, Keyword, Arguments}
@@ -19,9 +17,10 @@ use Rattle.tokens.specs.declared.Delimiter.the-variants.{Paren, Bracket, Brace}
 use Rattle.tokens.specs.declared.Look.{Look}
 use Rattle.tokens.specs.declared.Look.the-variants.{Name, Mark, Integer, Float, Literal, Lifetime, Open, Close}
 use Rattle.tokens.specs.Looks.{Field, markOf, joinedOf}
-use Rattle.hosts.specs.Answers.{looks}
-use Rattle.hosts.specs.Runs.{colon, less, greater, IsPath, IsType, IsGroup, group, IsBlock, IsAlone, IsPattern, alone, pathOnly, pathAndGroup, IsBlockWord, IsKeyword, wordAndBlock, IsArguments, angled, IsRun, LongestRun}
-use Rattle.hosts.specs.Statements.{lookRole, firstRole, firstMark, isAlone, isBlockWord, colons, behind, pathLength, typeLength, sameDelimiter, openLength, groupLength, keywordLength, enclosed, angledLength, argumentsLength, withGroup, patternLength, lengthOf, answer, statementReading}
+use Rattle.hosts.specs.Lawful.{looks}
+use Rattle.hosts.specs.Runs.{colon, less, greater, IsGroup, group, IsPattern, alone, pathOnly, pathAndGroup, IsKeyword, wordAndBlock, IsArguments, angled, IsRun, LongestRun}
+use Rattle.hosts.specs.Statements.{lookRole, firstMark, isAlone, isBlockWord, colons, behind, pathLength, typeLength, sameDelimiter, openLength, groupLength, keywordLength, enclosed, argumentsLength, withGroup, patternLength, lengthOf, answer, statementReading}
+use Rattle.hosts.proofs.Levels.{nth-drop}
 use Rattle.hosts.proofs.Roles.{false-true, tested, block-look, block-role, alone-look, alone-role, mark-look}
 use Rattle.hosts.proofs.Paths.{colons-look, marked, Reaches, path-found, path-reach, path-first, type-found, type-reach}
 
@@ -54,6 +53,7 @@ opened d (Open e n) h = tested (sameDelimiter d e) yes no
   where
     yes : sameDelimiter d e ≡ true → Open e n ≡ Open d (openLength d (Open e n))
     yes t = let len : openLength d (Open e n) ≡ n = rw t in let delimiter = same d e t in cc
+
     no : sameDelimiter d e ≡ false → Open e n ≡ Open d (openLength d (Open e n))
     no t = let none : openLength d (Open e n) ≡ 0 = rw t in absurd (omega arith)
 opened d (Close e) h = absurd (omega arith)
@@ -81,10 +81,12 @@ keyword-found (w ∷ l) h = tested (isBlockWord (lookRole w)) yes no
   where
     sum : (k : ℕ) → keywordLength (w ∷ l) ≡ behind 1 k → (0 < k) × (1 + k ≡ keywordLength (w ∷ l))
     sum k e = (grind (arith, tells), grind (arith, tells))
+
     yes : isBlockWord (lookRole w) ≡ true → IsKeyword (w ∷ l) (keywordLength (w ∷ l))
     yes t =
         let s = sum (groupLength Brace l) (rw t) in
         subst (λ (n : ℕ). IsKeyword (w ∷ l) n) (s .1) (wordAndBlock w l _ (block-look w t) (group-found Brace l (s .0)))
+
     no : isBlockWord (lookRole w) ≡ false → IsKeyword (w ∷ l) (keywordLength (w ∷ l))
     no t = let none : keywordLength (w ∷ l) ≡ 0 = rw t in absurd (omega arith)
 
@@ -99,11 +101,6 @@ keyword-most _ _ (wordAndBlock w l n h b) =
 
 -- Patterns
 
-pub nth-drop : (n : ℕ) (l : List Look) → nth (drop n l) 0 ≡ nth l n
-nth-drop zero l = refl
-nth-drop (suc n) [] = refl
-nth-drop (suc n) (a ∷ l) = nth-drop n l
-
 pub group-first : (d : Delimiter) (l : List Look) (n : ℕ) → IsGroup d l n → nth l 0 ≡ Some (Open d n)
 group-first d _ _ (group l n some within) = refl
 
@@ -113,8 +110,10 @@ pattern-found (a ∷ l) h = tested (isAlone (lookRole a)) yes no
   where
     yes : isAlone (lookRole a) ≡ true → IsPattern (a ∷ l) (patternLength (a ∷ l))
     yes t = rw t (alone a l (alone-look a t))
+
     parts : (n m : ℕ) → patternLength (a ∷ l) ≡ cond (eqb n 0) 0 (n + m) → (0 < n) × (n + m ≡ patternLength (a ∷ l))
     parts n m e = (grind (arith, tells), grind (arith, tells))
+
     no : isAlone (lookRole a) ≡ false → IsPattern (a ∷ l) (patternLength (a ∷ l))
     no t =
         let n : ℕ = pathLength (a ∷ l) in
@@ -148,6 +147,7 @@ pattern-most _ _ (pathAndGroup l n m p g) =
         let at : withGroup k l ≡ withGroup n l = ap (λ i. withGroup i l) (sym e) in
         let some = r .some in
         grind (arith, tells)
+
     apart : nth l n ≡ Some (Mark colon true) → nth l n ≡ Some (Open Paren m) → ⊥
     apart a b = let z : _≡_ {A = ℕ} 0 1 = cc in omega arith
 
@@ -162,7 +162,7 @@ first-mark (a ∷ l) c h t = (joinedOf a, ap Some (mark-look a c h t))
 
 -- the tests behind a length of arguments
 all-true : (x y z : Bool) (n : ℕ) → 0 < cond x (behind 2 (cond y (cond (eqb n 0) 0 (cond z (2 + n) 0)) 0)) 0
-  → (x ≡ true) × (y ≡ true) × (z ≡ true) × (0 < n) × (4 + n ≡ cond x (behind 2 (cond y (cond (eqb n 0) 0 (cond z (2 + n) 0)) 0)) 0)
+    → (x ≡ true) × (y ≡ true) × (z ≡ true) × (0 < n) × (4 + n ≡ cond x (behind 2 (cond y (cond (eqb n 0) 0 (cond z (2 + n) 0)) 0)) 0)
 all-true true true true n h = (refl, refl, refl, grind (arith, tells), grind (arith, tells))
 all-true true true false n h = absurd (grind (arith, tells))
 all-true true false z n h = absurd (grind (arith, tells))
@@ -195,12 +195,14 @@ arguments-most _ _ (angled i j k l n t close) =
         at : (xs : List Look) → nth xs 0 ≡ Some (Mark greater k) → eqb (firstMark xs) greater ≡ true
         at [] e = let z : _≡_ {A = ℕ} 0 1 = cc in absurd (omega arith)
         at (x ∷ xs) e = let is : x ≡ Mark greater k = cc in ap (λ y. eqb (markOf y) greater) is
+
     all : (m : ℕ) → Reaches l n m → n ≡ m → m ≡ typeLength l → 4 + n ≤ argumentsLength (Mark colon true ∷ Mark colon i ∷ Mark less j ∷ l)
     all m r e is =
         let some = r .some in
         let same : behind 2 (enclosed (typeLength l) l) ≡ behind 2 (enclosed n l) = ap (λ x. behind 2 (enclosed x l)) (sym (e ∙ is)) in
         let test = shut in
         grind (arith, tells)
+
     apart : nth l n ≡ Some (Mark colon true) → nth l n ≡ Some (Mark greater k) → ⊥
     apart a b = let z : _≡_ {A = ℕ} colon greater = cc in omega arith
 
@@ -231,5 +233,6 @@ longest-run part l = at (lengthOf part (looks l)) (run-found part (looks l)) (ru
       where
         none : eqb k 0 ≡ true → LongestRun part l (answer k)
         none t = rw t (λ n r. let m = most n r in grind (arith, tells))
+
         some : eqb k 0 ≡ false → LongestRun part l (answer k)
         some t = rw t (found (grind (arith, tells)), λ n r. most n r .1)

@@ -1,25 +1,22 @@
 -- The computed lengths of paths and types are those of the longest runs. Assumes nothing.
 use mathlib.Core.Path.{_≡_, refl, sym, ap, subst, _∙_}
 use mathlib.Core.List.{List, [], _∷_}
-use mathlib.Core.Bool.{Bool, true, false, cond, _&&_}
+use mathlib.Core.Bool.{Bool, true, false, _&&_}
 use mathlib.Core.Logic.{_⊎_, inl, inr, ⊎-elim}
 use Prim.Native.Nat.{ℕ, suc, _+_, _≤_, _<_}
 use native.Mathlib.Omega.{arith}
 use lib.Dec.{eqb}
-use lib.ListN.{length, drop}
+use lib.ListN.{drop}
 use Rattle.std.specs.declared.option.Option.the-variants.{Some}
 use Rattle.std.specs.Finite.{nth}
 use Rattle.std.proofs.shelf.Tests.{and-parts}
 use Rattle.std.proofs.shelf.Ways.{tells}
-use Rattle.tokens.specs.declared.Delimiter.{Delimiter}
-use Rattle.tokens.specs.declared.Delimiter.the-variants.{Paren, Bracket, Brace}
 use Rattle.tokens.specs.declared.Word.the-variants.{Mut}
 use Rattle.tokens.specs.declared.Look.{Look}
-use Rattle.tokens.specs.declared.Look.the-variants.{Name, Mark, Integer, Float, Literal, Lifetime, Open, Close}
+use Rattle.tokens.specs.declared.Look.the-variants.{Name, Mark}
 use Rattle.tokens.specs.Looks.{markOf, joinedOf}
-use Rattle.hosts.specs.declared.statement.Role.the-variants.{Segment, BlockWord, Alone}
-use Rattle.hosts.specs.Runs.{colon, ampersand, less, greater, IsSegment, IsSegments, oneSegment, moreSegments, IsPath, relative, rooted, IsType, named, reference, mutable}
-use Rattle.hosts.specs.Statements.{lookRole, firstRole, firstMark, isSegment, isMutable, isAlone, isBlockWord, colons, behind, further, segmentsLength, pathLength, references, typeLength}
+use Rattle.hosts.specs.Runs.{colon, ampersand, IsSegment, IsSegments, oneSegment, moreSegments, IsPath, relative, rooted, IsType, named, reference, mutable}
+use Rattle.hosts.specs.Statements.{lookRole, firstRole, firstMark, isSegment, isMutable, isAlone, colons, behind, further, segmentsLength, pathLength, references, typeLength}
 use Rattle.hosts.proofs.Roles.{false-true, tested, segment-look, segment-role, segment-mark, mutable-look, mark-look}
 use Rattle.hosts.proofs.Steps.{references-mutable, references-shared, references-none}
 
@@ -32,7 +29,7 @@ colons-look a b l t =
 
 -- a run over `::` as it is spelled
 pub marked : (R : List Look → ℕ → Type 0) (a b : Look) (l : List Look) (n : ℕ) → (a ≡ Mark colon true) × (b ≡ Mark colon (joinedOf b))
-  → R (Mark colon true ∷ Mark colon (joinedOf b) ∷ l) n → R (a ∷ b ∷ l) n
+    → R (Mark colon true ∷ Mark colon (joinedOf b) ∷ l) n → R (a ∷ b ∷ l) n
 marked R a b l n e r =
     subst (λ (x : Look). R (x ∷ b ∷ l) n) (sym (e .0)) (subst (λ (x : Look). R (Mark colon true ∷ x ∷ l) n) (sym (e .1)) r)
 
@@ -45,7 +42,7 @@ pub record Reaches (l : List Look) (n k : ℕ) : Type 0 where
 -- Segments
 
 longer : (s a b x : Look) (l : List Look) → IsSegment s → (isSegment (lookRole x) ≡ true → IsSegments (x ∷ l) (1 + further l))
-  → IsSegments (s ∷ a ∷ b ∷ x ∷ l) (1 + further (a ∷ b ∷ x ∷ l))
+    → IsSegments (s ∷ a ∷ b ∷ x ∷ l) (1 + further (a ∷ b ∷ x ∷ l))
 longer s a b x l h rest = tested (colons (a ∷ b ∷ []) && isSegment (lookRole x)) yes no
   where
     yes : (colons (a ∷ b ∷ []) && isSegment (lookRole x)) ≡ true → IsSegments (s ∷ a ∷ b ∷ x ∷ l) (1 + further (a ∷ b ∷ x ∷ l))
@@ -55,6 +52,7 @@ longer s a b x l h rest = tested (colons (a ∷ b ∷ []) && isSegment (lookRole
         let run = moreSegments s (joinedOf b) (x ∷ l) (1 + further l) h (rest (parts .1)) in
         let n : 3 + (1 + further l) ≡ 1 + further (a ∷ b ∷ x ∷ l) = rw t (omega arith) in
         subst (λ (k : ℕ). IsSegments (s ∷ a ∷ b ∷ x ∷ l) k) n (marked (λ xs k. IsSegments (s ∷ xs) k) a b (x ∷ l) _ marks run)
+
     no : (colons (a ∷ b ∷ []) && isSegment (lookRole x)) ≡ false → IsSegments (s ∷ a ∷ b ∷ x ∷ l) (1 + further (a ∷ b ∷ x ∷ l))
     no t = rw t (oneSegment s (a ∷ b ∷ x ∷ l) h)
 
@@ -90,7 +88,7 @@ two-further x y l n k r =
     rw (← a, ← b) (further-reach x (y ∷ l) _ _ (further-reach y l _ _ r))
 
 on : (s : Look) (j : Bool) (l : List Look) (n : ℕ) → isSegment (firstRole l) ≡ true → Reaches l n (1 + further (drop 1 l))
-  → Reaches (s ∷ Mark colon true ∷ Mark colon j ∷ l) (3 + n) (1 + further (Mark colon true ∷ Mark colon j ∷ l))
+    → Reaches (s ∷ Mark colon true ∷ Mark colon j ∷ l) (3 + n) (1 + further (Mark colon true ∷ Mark colon j ∷ l))
 on s j [] n t r = false-true t
 on s j (x ∷ l) n t r =
     let whole : 1 + (2 + (1 + further l)) ≡ 1 + further (Mark colon true ∷ Mark colon j ∷ x ∷ l) = rw t (omega arith) in
@@ -127,6 +125,7 @@ path-found (a ∷ b ∷ l) h = tested (colons (a ∷ b ∷ l)) yes no
         let some : 0 < segmentsLength l = grind (arith, tells) in
         let n : 2 + segmentsLength l ≡ pathLength (a ∷ b ∷ l) = grind (arith, tells) in
         subst (λ (k : ℕ). IsPath (a ∷ b ∷ l) k) n (marked IsPath a b l _ (colons-look a b l t) (rooted (joinedOf b) l _ (segments-found l some)))
+
     no : colons (a ∷ b ∷ l) ≡ false → IsPath (a ∷ b ∷ l) (pathLength (a ∷ b ∷ l))
     no t =
         let whole : pathLength (a ∷ b ∷ l) ≡ segmentsLength (a ∷ b ∷ l) = rw t in
@@ -174,7 +173,7 @@ named-found l h t =
     subst (λ (k : ℕ). IsType l k) (sym whole) (named l _ (path-found l (omega (arith, whole))))
 
 reference-found : (x : Look) (l : List Look) → 0 < typeLength (x ∷ l) → eqb (markOf x) ampersand ≡ true → isMutable (firstRole l) ≡ false
-  → (0 < typeLength l → IsType l (typeLength l)) → IsType (x ∷ l) (typeLength (x ∷ l))
+    → (0 < typeLength l → IsType l (typeLength l)) → IsType (x ∷ l) (typeLength (x ∷ l))
 reference-found x l h a m rest =
     let whole = type-reference x l a m in
     let some : 0 < typeLength l = at (typeLength l) whole in
@@ -184,11 +183,12 @@ reference-found x l h a m rest =
   where
     at : (k : ℕ) → typeLength (x ∷ l) ≡ behind 1 k → 0 < k
     at k e = grind (arith, tells)
+
     sum : (k : ℕ) → typeLength (x ∷ l) ≡ behind 1 k → 0 < k → 1 + k ≡ typeLength (x ∷ l)
     sum k e s = grind (arith, tells)
 
 mutable-found : (x y : Look) (l : List Look) → 0 < typeLength (x ∷ y ∷ l) → eqb (markOf x) ampersand ≡ true → isMutable (lookRole y) ≡ true
-  → (0 < typeLength l → IsType l (typeLength l)) → IsType (x ∷ y ∷ l) (typeLength (x ∷ y ∷ l))
+    → (0 < typeLength l → IsType l (typeLength l)) → IsType (x ∷ y ∷ l) (typeLength (x ∷ y ∷ l))
 mutable-found x y l h a m rest =
     let whole = type-mutable x y l a m in
     let some : 0 < typeLength l = at (typeLength l) whole in
@@ -199,6 +199,7 @@ mutable-found x y l h a m rest =
   where
     at : (k : ℕ) → typeLength (x ∷ y ∷ l) ≡ behind 2 k → 0 < k
     at k e = grind (arith, tells)
+
     sum : (k : ℕ) → typeLength (x ∷ y ∷ l) ≡ behind 2 k → 0 < k → 2 + k ≡ typeLength (x ∷ y ∷ l)
     sum k e s = grind (arith, tells)
 

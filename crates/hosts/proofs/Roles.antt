@@ -1,21 +1,18 @@
 -- What the role of a token tells of its look, and a look of its role. Assumes nothing.
-use mathlib.Core.Path.{_≡_, refl, sym, ap, _∙_}
-use mathlib.Core.List.{List, [], _∷_}
-use mathlib.Core.Bool.{Bool, true, false, cond, _&&_}
-use Prim.Native.Nat.{ℕ, _+_, _≤_, _<_}
+use mathlib.Core.Path.{_≡_, refl, ap}
+use mathlib.Core.Bool.{Bool, true, false}
+use Prim.Native.Nat.{ℕ, _<_}
 use native.Mathlib.Omega.{arith}
 use lib.Dec.{eqb}
 use borrow.Author.Tests.{eqb-true}
-use Rattle.tokens.specs.declared.Delimiter.{Delimiter}
-use Rattle.tokens.specs.declared.Delimiter.the-variants.{Paren, Bracket, Brace}
 use Rattle.tokens.specs.declared.Word.the-variants.{Plain, Raw, True, False, Underscore, SelfValue, SelfType, Super, Crate, Mut, Const, As, Let, If, Else, While, Break, Continue, Return, Await, Try, Async, Become, For, Loop, Match, Move, Static, Unsafe, Yield, Reserved}
 use Rattle.tokens.specs.declared.Look.{Look}
 use Rattle.tokens.specs.declared.Look.the-variants.{Name, Mark, Integer, Float, Literal, Lifetime, Open, Close}
 use Rattle.tokens.specs.Looks.{markOf, joinedOf}
 use Rattle.hosts.specs.declared.statement.Role.{Role}
 use Rattle.hosts.specs.declared.statement.Role.the-variants.{Segment, BlockWord, Alone, Mutable, Other}
-use Rattle.hosts.specs.Runs.{colon, IsSegment, plainSegment, rawSegment, selfValueSegment, selfTypeSegment, superSegment, crateSegment, IsAlone, underscore, trueLiteral, falseLiteral, integer, float, literal, IsBlockWord, loopWord, unsafeWord, constWord, asyncWord, tryWord}
-use Rattle.hosts.specs.Statements.{lookRole, firstRole, firstMark, isSegment, isMutable, isAlone, isBlockWord, colons, sameDelimiter, openLength}
+use Rattle.hosts.specs.Runs.{IsSegment, plainSegment, rawSegment, selfValueSegment, selfTypeSegment, superSegment, crateSegment, IsAlone, underscore, trueLiteral, falseLiteral, integer, float, literal, IsBlockWord, loopWord, unsafeWord, constWord, asyncWord, tryWord}
+use Rattle.hosts.specs.Statements.{lookRole, isSegment, isMutable, isAlone, isBlockWord}
 
 pub false-true : {P : Type 0} → false ≡ true → P
 false-true e = let z : _≡_ {A = ℕ} 0 1 = cc in absurd (omega arith)

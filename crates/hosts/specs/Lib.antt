@@ -1,3 +1,3 @@
-pub mod Answers
+pub mod Lawful
 pub mod Runs
 pub mod Statements

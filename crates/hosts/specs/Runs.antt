@@ -18,9 +18,9 @@ use Rattle.tokens.specs.declared.Word.the-variants.{Plain, Raw, True, False, Un
 use Rattle.tokens.specs.declared.Look.{Look}
 use Rattle.tokens.specs.declared.Look.the-variants.{Name, Mark, Integer, Float, Literal, Open}
 use Rattle.tokens.specs.Looks.{Field}
-use Rattle.hosts.specs.Answers.{looks}
+use Rattle.hosts.specs.Lawful.{looks}
 
--- the characters of the marks
+-- the characters `:`, `&`, `<` and `>`
 abbrev pub colon : ℕ
 colon = 58
 

@@ -20,13 +20,14 @@ use Rattle.tokens.specs.declared.Token.{Token}
 use Rattle.tokens.specs.Looks.{Field, markOf, joinedOf}
 use Rattle.hosts.specs.declared.statement.Role.{Role}
 use Rattle.hosts.specs.declared.statement.Role.the-variants.{Segment, BlockWord, Alone, Mutable, Other}
-use Rattle.hosts.specs.Answers.{looks}
+use Rattle.hosts.specs.Lawful.{looks}
 use Rattle.hosts.specs.Runs.{colon, ampersand, less, greater}
 
 -- the looks of the tokens from a place to an end
 unfoldable pub looksFrom : List Token → ℕ → ℕ → List Look
 looksFrom ts p e = map (λ t. t .look) (take (e - p) (drop p ts))
 
+-- what a token may be in a run, by its word and by its look
 abbrev pub wordRole : Word → Role
 wordRole Plain = Segment
 wordRole Raw = Segment
@@ -113,7 +114,7 @@ colons [] = false
 colons (a ∷ []) = false
 colons (a ∷ b ∷ l) = eqb (markOf a) colon && (joinedOf a && eqb (markOf b) colon)
 
--- A length of 0 says that there is no run. First, a run of length n behind k other tokens.
+-- Lengths of the longest runs, 0 where there is none. Here, of a run of n tokens with the k tokens before it.
 abbrev pub behind : ℕ → ℕ → ℕ
 behind k n = cond (eqb n 0) 0 (k + n)
 
@@ -193,6 +194,7 @@ lengthOf Block = groupLength Brace
 lengthOf Keyword = keywordLength
 lengthOf Arguments = argumentsLength
 
+-- what the host, whose number is 2, makes of a length
 abbrev pub answer : ℕ → Result ℕ Denial
 answer n = cond (eqb n 0) (Err (record { host = 2; code = 3 })) (Ok n)
 

@@ -7,9 +7,10 @@ ghost use Rattle.std.specs.declared.result.Result.{Result};
 ghost use Rattle.refusals.specs.declared.Part.{Part};
 ghost use Rattle.refusals.specs.declared.Denial.{Denial};
 ghost use Rattle.tokens.specs.Looks.{Field, levelOf};
-ghost use Rattle.hosts.specs.Answers.{Lawful};
+ghost use Rattle.hosts.specs.Lawful.{Lawful};
 
 pub mod statement;
+
 use refusals::Denial;
 use refusals::Part;
 use tokens::window::Window;

@@ -1,19 +1,56 @@
-// The host for statements, which takes the longest run of each part. The functions on a window answer where a run that
-// begins at a place ends, and that place itself where there is none.
+// The host for statements, which takes the longest run of each part.
 ghost use mathlib.Core.Path.{_≡_};
 ghost use mathlib.Core.Bool.{true};
 ghost use Prim.Native.Nat.{_+_, _<_};
 ghost use lib.Dec.{eqb};
 ghost use Rattle.tokens.specs.Looks.{levelOf};
 ghost use Rattle.hosts.specs.Runs.{LongestRun};
-ghost use Rattle.hosts.specs.Statements.{looksFrom, wordRole, lookRole, firstRole, firstMark, isSegment, isMutable, isAlone, isBlockWord, colons, further, segmentsLength, pathLength, references, typeLength, sameDelimiter, openLength, groupLength, keywordLength, patternLength, angledLength, argumentsLength, lengthOf, statementReading};
+ghost use Rattle.hosts.specs.Statements.{looksFrom, wordRole, lookRole, firstRole, firstMark, isSegment, isMutable, isAlone, isBlockWord, colons, further, segmentsLength, pathLength, references, typeLength, sameDelimiter, openLength, groupLength, keywordLength, patternLength, angledLength, argumentsLength, lengthOf, answer, statementReading};
+use super::Host;
 use refusals::Denial;
 use refusals::Part;
-use super::Host;
 use tokens::Delimiter;
 use tokens::Look;
 use tokens::Word;
 use tokens::window::Window;
+
+// Its types are paths behind `&` marks, its patterns single tokens and paths with a group, its blocks groups in braces.
+#[derive(Clone, Copy)]
+pub struct StatementHost;
+
+pub impl Host for StatementHost as StatementReading {
+    const NUMBER: u8 = 2;
+
+    ghost hostNumber = { 2 };
+
+    ghost reading = { λ h. statementReading };
+
+    fn own() -> u8 {
+        Self::NUMBER
+    }
+
+    fn read(&self, part: Part, level: Window) -> Result<usize, Denial>
+        ensures value { λ r. ⌜ r ≡ statementReading part (levelOf (now (level .entry .page)) (now (level .entry .tokens)) (level .entry .place) (level .entry .end)) ⌝ }
+        ensures longest { λ r. ⌜ LongestRun part (levelOf (now (level .entry .page)) (now (level .entry .tokens)) (level .entry .place) (level .entry .end)) r ⌝ }
+    {
+        let at = level.place();
+        answered(run_from(level, at, part) - at)
+    }
+}
+
+// The answer to a length, which is 0 where there is no run.
+fn answered(length: usize) -> Result<usize, Denial>
+    ensures { λ r. ⌜ r ≡ answer length ⌝ }
+{
+    if length == 0 {
+        Err(Denial {
+            host: StatementHost::NUMBER,
+            code: 3,
+        })
+    } else {
+        Ok(length)
+    }
+}
 
 // What a token may be in a run.
 #[derive(Clone, Copy)]
@@ -26,11 +63,13 @@ enum Role {
     Other,
 }
 
+// What a name may be.
 fn word_role(word: Word) -> Role
     ensures { λ r. ⌜ r ≡ wordRole word ⌝ }
 {
     match word {
-        Word::Plain | Word::Raw | Word::SelfValue | Word::SelfType | Word::Super | Word::Crate => Role::Segment,
+        Word::Plain | Word::Raw | Word::SelfValue | Word::SelfType | Word::Super | Word::Crate =>
+            Role::Segment,
         Word::Loop | Word::Unsafe | Word::Const | Word::Async | Word::Try => Role::BlockWord,
         Word::Underscore | Word::True | Word::False => Role::Alone,
         Word::Mut => Role::Mutable,
@@ -38,6 +77,7 @@ fn word_role(word: Word) -> Role
     }
 }
 
+// What a token of this look may be.
 fn look_role(look: Look) -> Role
     ensures { λ r. ⌜ r ≡ lookRole look ⌝ }
 {
@@ -48,6 +88,7 @@ fn look_role(look: Look) -> Role
     }
 }
 
+// What the token at a place may be.
 fn role_at(w: Window, at: usize) -> Role
     ensures { λ r. ⌜ r ≡ firstRole (looksFrom (now (w .entry .tokens)) at (w .entry .end)) ⌝ }
 {
@@ -57,6 +98,7 @@ fn role_at(w: Window, at: usize) -> Role
     }
 }
 
+// Whether a token with this role is a segment of a path.
 fn is_segment(role: Role) -> bool
     ensures { λ r. ⌜ r ≡ isSegment role ⌝ }
 {
@@ -66,6 +108,7 @@ fn is_segment(role: Role) -> bool
     }
 }
 
+// Whether it is the word `mut`.
 fn is_mutable(role: Role) -> bool
     ensures { λ r. ⌜ r ≡ isMutable role ⌝ }
 {
@@ -75,6 +118,7 @@ fn is_mutable(role: Role) -> bool
     }
 }
 
+// Whether it is a pattern by itself.
 fn is_alone(role: Role) -> bool
     ensures { λ r. ⌜ r ≡ isAlone role ⌝ }
 {
@@ -84,6 +128,7 @@ fn is_alone(role: Role) -> bool
     }
 }
 
+// Whether it is a word that may stand before a block.
 fn is_block_word(role: Role) -> bool
     ensures { λ r. ⌜ r ≡ isBlockWord role ⌝ }
 {
@@ -92,6 +137,10 @@ fn is_block_word(role: Role) -> bool
         _ => false,
     }
 }
+
+// Each function below whose name ends in `_at` asks what stands at a place of the window, and says of a yes that it
+// stands before the end. One that ends in `_from` answers where the longest run that begins at a place ends, and that
+// place itself where there is none.
 
 // Whether a segment of a path stands at a place.
 fn segment_at(w: Window, at: usize) -> bool
@@ -152,6 +201,7 @@ fn further_from(w: Window, at: usize) -> usize
     next
 }
 
+// Where the segments that begin at a place end, joined by `::`.
 fn segments_from(w: Window, at: usize) -> usize
     ensures { λ r. ⌜ r ≡ at + segmentsLength (looksFrom (now (w .entry .tokens)) at (w .entry .end)) ⌝ }
 {
@@ -162,6 +212,7 @@ fn segments_from(w: Window, at: usize) -> usize
     }
 }
 
+// Where the path that begins at a place ends.
 fn path_from(w: Window, at: usize) -> usize
     ensures { λ r. ⌜ r ≡ at + pathLength (looksFrom (now (w .entry .tokens)) at (w .entry .end)) ⌝ }
 {
@@ -188,6 +239,7 @@ fn references_from(w: Window, at: usize) -> usize
     next
 }
 
+// Where the type that begins at a place ends.
 fn type_from(w: Window, at: usize) -> usize
     ensures { λ r. ⌜ r ≡ at + typeLength (looksFrom (now (w .entry .tokens)) at (w .entry .end)) ⌝ }
 {
@@ -196,6 +248,7 @@ fn type_from(w: Window, at: usize) -> usize
     if next > front { next } else { at }
 }
 
+// Whether two delimiters are the same.
 fn same_delimiter(a: Delimiter, b: Delimiter) -> bool
     ensures { λ r. ⌜ r ≡ sameDelimiter a b ⌝ }
 {
@@ -212,7 +265,13 @@ fn open_length(delimiter: Delimiter, look: Look) -> usize
     ensures { λ r. ⌜ r ≡ openLength delimiter look ⌝ }
 {
     match look {
-        Look::Open(other, len) => if same_delimiter(delimiter, other) { len } else { 0 },
+        Look::Open(other, len) => {
+            if same_delimiter(delimiter, other) {
+                len
+            } else {
+                0
+            }
+        }
         _ => 0,
     }
 }
@@ -230,6 +289,7 @@ fn group_from(w: Window, at: usize, delimiter: Delimiter) -> usize
     }
 }
 
+// Where the block that begins with a word at a place ends.
 fn keyword_from(w: Window, at: usize) -> usize
     ensures { λ r. ⌜ r ≡ at + keywordLength (looksFrom (now (w .entry .tokens)) at (w .entry .end)) ⌝ }
 {
@@ -241,6 +301,7 @@ fn keyword_from(w: Window, at: usize) -> usize
     }
 }
 
+// Where the pattern that begins at a place ends.
 fn pattern_from(w: Window, at: usize) -> usize
     ensures { λ r. ⌜ r ≡ at + patternLength (looksFrom (now (w .entry .tokens)) at (w .entry .end)) ⌝ }
 {
@@ -248,11 +309,15 @@ fn pattern_from(w: Window, at: usize) -> usize
         at + 1
     } else {
         let next = path_from(w, at);
-        if next > at { group_from(w, next, Delimiter::Paren) } else { at }
+        if next > at {
+            group_from(w, next, Delimiter::Paren)
+        } else {
+            at
+        }
     }
 }
 
-// Where `<`, a type and `>` end.
+// Where `<`, a type and `>` that begin at a place end.
 fn angled_from(w: Window, at: usize) -> usize
     ensures { λ r. ⌜ r ≡ at + angledLength (looksFrom (now (w .entry .tokens)) at (w .entry .end)) ⌝ }
 {
@@ -266,6 +331,7 @@ fn angled_from(w: Window, at: usize) -> usize
     if mark_at(w, next, '>') { next + 1 } else { at }
 }
 
+// Where the arguments that begin at a place end: `::`, and then a type between `<` and `>`.
 fn arguments_from(w: Window, at: usize) -> usize
     ensures { λ r. ⌜ r ≡ at + argumentsLength (looksFrom (now (w .entry .tokens)) at (w .entry .end)) ⌝ }
 {
@@ -288,33 +354,5 @@ fn run_from(w: Window, at: usize, part: Part) -> usize
         Part::Block => group_from(w, at, Delimiter::Brace),
         Part::Keyword => keyword_from(w, at),
         Part::Arguments => arguments_from(w, at),
-    }
-}
-
-// The host for statements.
-#[derive(Clone, Copy)]
-pub struct StatementHost;
-
-pub impl Host for StatementHost as StatementReading {
-    const NUMBER: u8 = 2;
-
-    ghost hostNumber = { 2 };
-
-    ghost reading = { λ h. statementReading };
-
-    fn own() -> u8 {
-        Self::NUMBER
-    }
-
-    fn read(&self, part: Part, level: Window) -> Result<usize, Denial>
-        ensures value { λ r. ⌜ r ≡ statementReading part (levelOf (now (level .entry .page)) (now (level .entry .tokens)) (level .entry .place) (level .entry .end)) ⌝ }
-        ensures longest { λ r. ⌜ LongestRun part (levelOf (now (level .entry .page)) (now (level .entry .tokens)) (level .entry .place) (level .entry .end)) r ⌝ }
-    {
-        let at = level.place();
-        let next = run_from(level, at, part);
-        if next == at {
-            return Err(Denial { host: Self::NUMBER, code: 3 });
-        }
-        Ok(next - at)
     }
 }

@@ -105,3 +105,14 @@ impl<'a, 'c, T: Copy> Counted<'a, 'c, T> {
         }
     }
 }
+
+// Adds a record behind those in use of a space. The list is made over a plain slice, so that the caller learns what its space
+// holds after.
+pub fn append<T: Copy>(space: &mut [T], count: &mut usize, x: T) -> Result<usize, T>
+    ensures value { λ r. ⌜ r ≡ cond (ltb (now (count .entry)) (length (now (space .entry)))) (Ok (now (count .entry))) (Err x) ⌝ }
+    ensures pushed { λ _. ⌜ (now (count .entry) < length (now (space .entry)) → take (now (count .exit)) (now (space .exit)) ≡ take (now (count .entry)) (now (space .entry)) ++ x ∷ []) ⌝ }
+    ensures count { λ _. ⌜ (now (count .entry) < length (now (space .entry)) → now (count .exit) ≡ now (count .entry) + 1) ⌝ }
+{
+    let mut list = Counted::new(space, count);
+    list.push(x)
+}

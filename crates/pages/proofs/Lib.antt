@@ -1,4 +1,6 @@
 pub mod Bytes
+pub mod Keeping
+pub mod Matched
 pub mod Sound
 pub mod Spellings
 pub mod Stepping

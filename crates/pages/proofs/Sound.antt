@@ -83,14 +83,14 @@ module _ (page : List ℕ) (room : ℕ) (h : Held) (t : Token) where
   sound-more m s at-page (plain _ _ fits ts inner) = record {
     places = subst (All (Placed page)) (sym ts) (all-push (Placed page) (h .tokens) t (s .places) at-page);
     inner =
-      let more : length (h .tokens) ≤ length (m .tokens) = omega (arith, ap length ts ∙ length-push (h .tokens) t) in
-      subst (Below (length (m .tokens))) (sym inner) (below-more _ _ (h .inner) more (s .inner))
+        let more : length (h .tokens) ≤ length (m .tokens) = omega (arith, ap length ts ∙ length-push (h .tokens) t) in
+        subst (Below (length (m .tokens))) (sym inner) (below-more _ _ (h .inner) more (s .inner));
   }
   sound-more m s at-page (opened _ d fits ts inner) = record {
     places = subst (All (Placed page)) (sym ts) (all-push (Placed page) (h .tokens) _ (s .places) at-page);
     inner =
-      let more : length (h .tokens) < length (m .tokens) = omega (arith, ap length ts ∙ length-push (h .tokens) (relooked t (Open d (placesBack (length (h .tokens)) (h .inner))))) in
-      subst (Below (length (m .tokens))) (sym inner) more
+        let more : length (h .tokens) < length (m .tokens) = omega (arith, ap length ts ∙ length-push (h .tokens) (relooked t (Open d (placesBack (length (h .tokens)) (h .inner))))) in
+        subst (Below (length (m .tokens))) (sym inner) more;
   }
   sound-more m s at-page (shut _ d p k fits c i o ts inner) =
       let new : Token = relooked (getD (h .tokens) p noToken) (Open d (length (h .tokens) - p + 1)) in
@@ -100,5 +100,5 @@ module _ (page : List ℕ) (room : ℕ) (h : Held) (t : Token) where
       let below : p < length (m .tokens) = omega arith in
       record {
         places = subst (All (Placed page)) (sym ts) (all-push (Placed page) (set (h .tokens) p new) t (all-set (Placed page) (h .tokens) p new there (s .places)) at-page);
-        inner = subst (Below (length (m .tokens))) (sym inner) (below-around _ p k below)
+        inner = subst (Below (length (m .tokens))) (sym inner) (below-around _ p k below);
       }

@@ -1,7 +1,8 @@
 -- A page is its fields in order: their tokens, up to the first field that is refused. Assumes nothing.
 use mathlib.Core.Bool.{cond}
 use mathlib.Core.List.{List, []}
-use Prim.Native.Nat.{ℕ, zero, suc, _+_, _-_}
+use mathlib.Core.Path.{_≡_}
+use Prim.Native.Nat.{ℕ, zero, suc, _+_, _-_, _<_, _≤_, min}
 use lib.Dec.{ltb}
 use lib.ListN.{length, getD}
 use Rattle.std.specs.declared.option.Option.{Option}
@@ -9,10 +10,11 @@ use Rattle.std.specs.declared.option.Option.the-variants.{Some, None}
 use Rattle.std.specs.declared.result.Result.{Result}
 use Rattle.std.specs.declared.result.Result.the-variants.{Ok, Err}
 use Rattle.refusals.specs.declared.Refusal.{Refusal}
-use Rattle.refusals.specs.declared.Refusal.the-variants.{Unbalanced}
-use Rattle.tokens.specs.Looks.{noToken}
+use Rattle.refusals.specs.declared.Refusal.the-variants.{Unbalanced, NotThere}
+use Rattle.tokens.specs.Looks.{noToken, fieldOf}
 use Rattle.tokens.specs.declared.Token.{Token}
 use Rattle.pages.specs.Fields.{fieldAt}
+use Rattle.pages.specs.Nesting.{Nested}
 use Rattle.pages.specs.Steps.{Held, step}
 
 -- the tokens of the fields that were taken in, and why the next one, or the end of the page, was refused
@@ -52,10 +54,10 @@ unfoldable pub outcome : (room : ℕ) → List ℕ → Outcome
 outcome room page = walk room page (length page) 0 nothing
 
 -- the tokens of a page, where no more than the room are held
-abbrev pub tokensOf : (room : ℕ) → List ℕ → List Token
+unfoldable pub tokensOf : (room : ℕ) → List ℕ → List Token
 tokensOf room page = outcome room page .tokens
 
-abbrev pub faultOf : (room : ℕ) → List ℕ → Option Refusal
+unfoldable pub faultOf : (room : ℕ) → List ℕ → Option Refusal
 faultOf room page = outcome room page .fault
 
 abbrev pub answer : Option Refusal → ℕ → Result ℕ Refusal
@@ -65,3 +67,20 @@ answer (Some e) n = Err e
 -- the number of tokens, or the first refusal
 abbrev pub pageAnswer : (room : ℕ) → List ℕ → Result ℕ Refusal
 pageAnswer room page = answer (faultOf room page) (length (tokensOf room page))
+
+-- what holds of a page that is accepted with n tokens, in a space of this size
+pub record Accepted (size : ℕ) (page : List ℕ) (n : ℕ) : Type 0 where
+  pub number : n ≡ length (tokensOf (min size 4096) page)
+  pub most : n ≤ 4096
+  pub fits : n ≤ size
+  -- each value stands on the page
+  pub placed : (i : ℕ) → i < n → getD (tokensOf (min size 4096) page) i noToken .start + getD (tokensOf (min size 4096) page) i noToken .len ≤ length page
+  pub nested : Nested (tokensOf (min size 4096) page)
+
+-- the bytes of the value of a token, if there is such a token
+abbrev pub textBy : List ℕ → List Token → ℕ → Result ℕ Refusal → Result (List ℕ) Refusal
+textBy page ts place (Ok n) = cond (ltb place n) (Ok (fieldOf page (getD ts place noToken) .bytes)) (Err NotThere)
+textBy page ts place (Err e) = Err e
+
+abbrev pub textOf : List ℕ → ℕ → Result (List ℕ) Refusal
+textOf page place = textBy page (tokensOf 4096 page) place (pageAnswer 4096 page)

@@ -1,16 +1,13 @@
 -- One field more: what is held after it, or why it is refused. Assumes nothing.
 use mathlib.Core.Bool.{Bool, true, false, cond}
 use mathlib.Core.List.{List, [], _∷_, _++_}
-use mathlib.Core.Path.{_≡_}
-use Prim.Native.Nat.{ℕ, _+_, _-_, _≤_}
+use Prim.Native.Nat.{ℕ, _+_, _-_}
 use lib.Dec.{eqb, ltb}
-use lib.ListN.{length, getD, set, drop}
+use lib.ListN.{length, getD, set}
 use Rattle.std.specs.declared.option.Option.{Option}
 use Rattle.std.specs.declared.option.Option.the-variants.{Some, None}
 use Rattle.std.specs.declared.result.Result.{Result}
 use Rattle.std.specs.declared.result.Result.the-variants.{Ok, Err}
-use Rattle.lists.specs.declared.Counted.{Counted}
-use Rattle.lists.specs.Lists.{items, rest, used, room as capacity, Same}
 use Rattle.refusals.specs.declared.Refusal.{Refusal}
 use Rattle.refusals.specs.declared.Refusal.the-variants.{Unbalanced, TooManyTokens}
 use Rattle.tokens.specs.Looks.{noToken}
@@ -87,12 +84,3 @@ stepBy room at h t (Close d) = closing room at (h .tokens) t d (h .inner)
 -- the token t of the field at a byte is taken in
 abbrev pub step : (room at : ℕ) → Held → Token → Result Held Refusal
 step room at h t = stepBy room at h t (t .look)
-
--- what a counted list holds
-abbrev pub held : Counted Token → Option ℕ → Held
-held l inner = record { tokens = items l; inner = inner }
-
--- a list has become what the definition says, by one record more over the first of the rest, or is as it was
-abbrev pub Stepped : Result Held Refusal → Counted Token → Counted Token → Result (Option ℕ) Refusal → Type 0
-Stepped e l m (Ok inner) = (e ≡ Ok (held m inner)) × (rest m ≡ drop 1 (rest l)) × (used m ≡ used l + 1) × (used m ≤ capacity m)
-Stepped e l m (Err x) = (e ≡ Err x) × Same l m

@@ -10,8 +10,8 @@ use super::values::is_float;
 use super::values::is_integer;
 use super::values::is_name;
 use super::words::word_of;
-use tokens::Delimiter;
 use refusals::Refusal;
+use tokens::Delimiter;
 use tokens::Look;
 use tokens::Token;
 
@@ -127,7 +127,11 @@ fn token_of(at: usize, len: usize, look: Option<Look>) -> Result<Token, Refusal>
     ensures { λ r. ⌜ r ≡ looked at len look ⌝ }
 {
     match look {
-        Some(look) => Ok(Token { look, start: at + 3, len }),
+        Some(look) => Ok(Token {
+            look,
+            start: at + 3,
+            len,
+        }),
         None => Err(Refusal::BadField(at)),
     }
 }

@@ -7,7 +7,8 @@ ghost use Rattle.std.specs.Options.{Cases};
 ghost use Rattle.std.specs.declared.result.Result.the-variants.{Ok, Err};
 ghost use Rattle.lists.specs.Lists.{items, used, room, Lent, Pushed, Same};
 ghost use Rattle.refusals.specs.declared.Refusal.the-variants.{TooManyTokens};
-ghost use Rattle.pages.specs.Steps.{sameDelimiter, placesBack, around, added, closing, opening, held, step, Stepped};
+ghost use Rattle.pages.specs.Steps.{sameDelimiter, placesBack, around, added, closing, opening, step};
+ghost use Rattle.pages.specs.Taken.{held, Stepped};
 use lists::Counted;
 use refusals::Refusal;
 use tokens::Delimiter;
@@ -58,11 +59,20 @@ fn places_back(place: usize, inner: Option<usize>) -> usize
 fn opener_around(place: usize, back: usize) -> Option<usize>
     ensures { λ r. ⌜ r ≡ around place back ⌝ }
 {
-    if back == 0 { None } else { Some(place.saturating_sub(back)) }
+    if back == 0 {
+        None
+    } else {
+        Some(place.saturating_sub(back))
+    }
 }
 
 // Takes a token in that ends no group, with what is the innermost opener after it.
-fn keep(list: &mut Counted<Token>, inner: Option<usize>, token: Token, at: usize) -> Result<Option<usize>, Refusal>
+fn keep(
+    list: &mut Counted<Token>,
+    inner: Option<usize>,
+    token: Token,
+    at: usize,
+) -> Result<Option<usize>, Refusal>
     requires { ⌜ used (now list) ≤ room (now list) ⌝ }
     ensures stepped { λ r. ⌜ Stepped (added (min (room (now (list .entry))) 4096) at (items (now (list .entry))) token inner) (now (list .entry)) (now (list .exit)) r ⌝ }
     ensures room { λ _. ⌜ room (now (list .exit)) ≡ room (now (list .entry)) ⌝ }
@@ -73,7 +83,13 @@ fn keep(list: &mut Counted<Token>, inner: Option<usize>, token: Token, at: usize
 }
 
 // Takes an opener in: until its closer comes it holds how many places back the opener around it stands.
-fn open(list: &mut Counted<Token>, inner: Option<usize>, token: Token, delimiter: Delimiter, at: usize) -> Result<Option<usize>, Refusal>
+fn open(
+    list: &mut Counted<Token>,
+    inner: Option<usize>,
+    token: Token,
+    delimiter: Delimiter,
+    at: usize,
+) -> Result<Option<usize>, Refusal>
     requires { ⌜ used (now list) ≤ room (now list) ⌝ }
     ensures stepped { λ r. ⌜ Stepped (opening (min (room (now (list .entry))) 4096) at (held (now (list .entry)) inner) token delimiter) (now (list .entry)) (now (list .exit)) r ⌝ }
     ensures room { λ _. ⌜ room (now (list .exit)) ≡ room (now (list .entry)) ⌝ }
@@ -85,7 +101,13 @@ fn open(list: &mut Counted<Token>, inner: Option<usize>, token: Token, delimiter
 }
 
 // Takes a closer in: the innermost opener learns the size of its group, and the one around it is the innermost now.
-fn close(list: &mut Counted<Token>, inner: Option<usize>, token: Token, delimiter: Delimiter, at: usize) -> Result<Option<usize>, Refusal>
+fn close(
+    list: &mut Counted<Token>,
+    inner: Option<usize>,
+    token: Token,
+    delimiter: Delimiter,
+    at: usize,
+) -> Result<Option<usize>, Refusal>
     requires opened { ⌜ Cases inner (Unit {0}) (λ p. p < used (now list)) ⌝ }
     requires held { ⌜ used (now list) ≤ room (now list) ⌝ }
     ensures stepped { λ r. ⌜ Stepped (closing (min (room (now (list .entry))) 4096) at (items (now (list .entry))) token delimiter inner) (now (list .entry)) (now (list .exit)) r ⌝ }
@@ -103,12 +125,23 @@ fn close(list: &mut Counted<Token>, inner: Option<usize>, token: Token, delimite
         return Err(Refusal::Unbalanced(at));
     }
     let closer = add(list, token, at)?;
-    list.put(place, Token { look: Look::Open(opened, closer - place + 1), ..opener });
+    list.put(
+        place,
+        Token {
+            look: Look::Open(opened, closer - place + 1),
+            ..opener
+        },
+    );
     Ok(opener_around(place, back))
 }
 
 // Takes in the token of the field at this byte of the page, and answers the place of the innermost opener after it.
-pub fn take_in(list: &mut Counted<Token>, inner: Option<usize>, token: Token, at: usize) -> Result<Option<usize>, Refusal>
+pub fn take_in(
+    list: &mut Counted<Token>,
+    inner: Option<usize>,
+    token: Token,
+    at: usize,
+) -> Result<Option<usize>, Refusal>
     requires opened { ⌜ Cases inner (Unit {0}) (λ p. p < used (now list)) ⌝ }
     requires held { ⌜ used (now list) ≤ room (now list) ⌝ }
     ensures stepped { λ r. ⌜ Stepped (step (min (room (now (list .entry))) 4096) at (held (now (list .entry)) inner) token) (now (list .entry)) (now (list .exit)) r ⌝ }

@@ -1,12 +1,13 @@
 // The walk over a page, field after field.
+ghost use mathlib.Core.List.{_++_};
 ghost use mathlib.Core.Path.{_≡_};
 ghost use Prim.Native.Nat.{ℕ, _<_, _≤_, min};
-ghost use lib.ListN.{drop, getD};
+ghost use lib.ListN.{length, drop, getD};
 ghost use Rattle.std.specs.Options.{Cases};
-ghost use Rattle.std.specs.declared.option.Option.the-variants.{Some};
-ghost use Rattle.lists.specs.Lists.{items, rest, used, room, Lent};
+ghost use Rattle.std.specs.Vec.{made};
+ghost use Rattle.lists.specs.Lists.{items, used, room, Lent};
 ghost use Rattle.tokens.specs.Looks.{noToken};
-ghost use Rattle.pages.specs.Pages.{answer, stillOpen, tokensOf, pageAnswer};
+ghost use Rattle.pages.specs.Pages.{answer, stillOpen, tokensOf, pageAnswer, Accepted};
 use super::fields::field_at;
 use super::steps::take_in;
 use lists::Counted;
@@ -28,11 +29,9 @@ fn finish(list: &Counted<Token>, inner: Option<usize>) -> Result<usize, Refusal>
 // Reads the fields of a page in order, and takes their tokens into an empty list.
 pub fn walk(page: &[u8], list: &mut Counted<Token>) -> Result<usize, Refusal>
     requires { ⌜ used (now list) ≡ 0 ⌝ }
-    ensures value { λ r. ⌜ r ≡ pageAnswer (min (room (now (list .entry))) 4096) (now (page .entry)) ⌝ }
-    ensures items { λ _. ⌜ items (now (list .exit)) ≡ tokensOf (min (room (now (list .entry))) 4096) (now (page .entry)) ⌝ }
-    ensures rest { λ _. ⌜ rest (now (list .exit)) ≡ drop (used (now (list .exit))) (now (now (list .entry) .space)) ⌝ }
-    ensures held { λ _. ⌜ used (now (list .exit)) ≤ room (now (list .exit)) ⌝ }
-    ensures room { λ _. ⌜ room (now (list .exit)) ≡ room (now (list .entry)) ⌝ }
+    ensures answer { λ r. ⌜ r ≡ pageAnswer (min (room (now (list .entry))) 4096) (now (page .entry)) ⌝ }
+    ensures records { λ _. ⌜ now (now (list .exit) .space) ≡ tokensOf (min (room (now (list .entry))) 4096) (now (page .entry)) ++ drop (length (tokensOf (min (room (now (list .entry))) 4096) (now (page .entry)))) (now (now (list .entry) .space)) ⌝ }
+    ensures accepted { λ r. ⌜ made r (Accepted (room (now (list .entry))) (now (page .entry))) ⌝ }
     ensures lender { λ _. ⌜ Lent (now (list .entry)) (now (list .exit)) ⌝ }
 {
     let mut at = 0;

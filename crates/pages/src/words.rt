@@ -47,7 +47,13 @@ fn word_of_three(bytes: &[u8]) -> Word
         Word::Raw
     } else if spells(bytes, b"try") {
         Word::Try
-    } else if spells(bytes, b"box") || spells(bytes, b"dyn") || spells(bytes, b"mod") || spells(bytes, b"pub") || spells(bytes, b"ref") || spells(bytes, b"use") {
+    } else if spells(bytes, b"box")
+        || spells(bytes, b"dyn")
+        || spells(bytes, b"mod")
+        || spells(bytes, b"pub")
+        || spells(bytes, b"ref")
+        || spells(bytes, b"use")
+    {
         Word::Reserved
     } else {
         Word::Plain
@@ -69,7 +75,11 @@ fn word_of_four(bytes: &[u8]) -> Word
         Word::SelfType
     } else if spells(bytes, b"true") {
         Word::True
-    } else if spells(bytes, b"enum") || spells(bytes, b"impl") || spells(bytes, b"priv") || spells(bytes, b"type") {
+    } else if spells(bytes, b"enum")
+        || spells(bytes, b"impl")
+        || spells(bytes, b"priv")
+        || spells(bytes, b"type")
+    {
         Word::Reserved
     } else {
         Word::Plain
@@ -99,7 +109,11 @@ fn word_of_five(bytes: &[u8]) -> Word
         Word::While
     } else if spells(bytes, b"yield") {
         Word::Yield
-    } else if spells(bytes, b"final") || spells(bytes, b"macro") || spells(bytes, b"trait") || spells(bytes, b"where") {
+    } else if spells(bytes, b"final")
+        || spells(bytes, b"macro")
+        || spells(bytes, b"trait")
+        || spells(bytes, b"where")
+    {
         Word::Reserved
     } else {
         Word::Plain

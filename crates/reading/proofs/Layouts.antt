@@ -1,4 +1,4 @@
--- How long a layout is, and that a child that is attached changes one link. Assumes nothing.
+-- A child that is attached changes one link. Assumes nothing.
 use mathlib.Core.Path.{_≡_, refl, sym, ap, subst, _∙_}
 use mathlib.Core.List.{List, [], _∷_, _++_, append-assoc, append-nil}
 use Prim.Native.Nat.{ℕ, _+_, _-_, _<_, _≤_}
@@ -10,20 +10,8 @@ use Rattle.std.specs.declared.option.Option.the-variants.{Some, None}
 use Rattle.trees.specs.declared.Label.{Label}
 use Rattle.trees.specs.declared.Node.{Node}
 use Rattle.trees.specs.Layout.{Tree, Trees, branch, none, _then_, node, size, sizes, rootAt, firstAt, lay, lays}
+use Rattle.trees.proofs.Sizes.{lays-length}
 use Rattle.reading.specs.Machine.{lastAt, withNext, noNode, linkTo}
-
-mutual
-  pub lay-length : (t : Tree) (j : ℕ) (nx : Option ℕ) → length (lay j nx t) ≡ size t
-  lay-length (branch l ts) j nx =
-      let h = lays-length ts j None in
-      omega (arith, length-append (lays j None ts) (node l (firstAt j ts) nx ∷ []))
-
-  pub lays-length : (ts : Trees) (j : ℕ) (nx : Option ℕ) → length (lays j nx ts) ≡ sizes ts
-  lays-length none j nx = refl
-  lays-length (ts then t) j nx =
-      let h = lays-length ts j (Some (rootAt (j + sizes ts) t)) in
-      let k = lay-length t (j + sizes ts) nx in
-      omega (arith, length-append (lays j (Some (rootAt (j + sizes ts) t)) ts) (lay (j + sizes ts) nx t))
 
 -- one node's link is changed where it stands
 patch : (p ys : List Node) (l : Label) (f nx : Option ℕ) (i r : ℕ) → length p ≡ i → linkTo (p ++ node l f nx ∷ ys) (Some i) r ≡ p ++ node l f (Some r) ∷ ys

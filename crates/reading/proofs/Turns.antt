@@ -27,7 +27,7 @@ use Rattle.trees.specs.declared.Kind.the-variants as kind
 use Rattle.trees.specs.declared.Label.{Label}
 use Rattle.trees.specs.declared.Node.{Node}
 use Rattle.trees.specs.Layout.{Tree, Trees, branch, none, _then_, labelOf, node, sizes, rootAt, firstAt, lay, lays}
-use Rattle.hosts.specs.Answers.{Lawful}
+use Rattle.hosts.specs.Lawful.{Lawful}
 use Rattle.grammar.specs.declared.Head.{Head}
 use Rattle.grammar.specs.declared.Head.the-variants.{Leaf, Prefix, Group, NoHead}
 use Rattle.grammar.specs.declared.Tail.{Tail}
@@ -39,7 +39,8 @@ use Rattle.grammar.proofs.Levels.{taken}
 use Rattle.grammar.proofs.Steps.{GoodHead, GoodTail, good-head, good-tail}
 use Rattle.reading.specs.Moves.{spot, frame, noLinks, oneLink, madeOf, finishedOf, beginOf, goOf, typeOf, decideOf, shutOf, nextItemOf, itemOf, closeBy, closeOf, relinkedOf}
 use Rattle.reading.specs.Machine.{withNext, noNode, linkTo, LastIn, attached, lastAt, linksAt, Wait, flat, spilled, Linked, nodesBy, FitBy, again, afterBy, resume, aheadBy, Stack, Sound, toGo, Going, Over, Turned, Kept, RoomFor, Applied}
-use Rattle.reading.proofs.Layouts.{lay-length, lays-length, relink}
+use Rattle.trees.proofs.Sizes.{lays-length}
+use Rattle.reading.proofs.Layouts.{relink}
 use Rattle.reading.proofs.Means.{wait, R, again-is, resume-refused, at-head, leaf-means, prefix-means, group-means, at-tail, takes-means, endless-means, casts-means, itemsBy, items-means}
 use Rattle.reading.specs.declared.frames.Links.{Links}
 use Rattle.reading.specs.declared.frames.Job.{Job}
@@ -453,7 +454,7 @@ module _ (reading : Part → List Field → Result ℕ Denial) (law : (w : Part)
       where
         go : (ws : List Wait) → F ≡ flat ws → N ≡ S ++ (spilled (length S) ws ++ lay (up ws) None t) → On ws (s .end) (took t (s .place)) ≡ all → Keeps F s N F′ Done
         go [] flats holds means =
-            record { tree = t; is = sym means; nodes = holds ∙ ap (λ (i : ℕ). S ++ lay i None t) (add-zero (length S)) }
+            record { tree = t; is = sym means; nodes = holds ∙ ap (λ (i : ℕ). S ++ lay i None t) (add-zero (length S)); few = omega (arith, x .room) }
         go (w ∷ ws) flats holds means = absurd (let y = ap length flats ∙ length-push (flat ws) (w .frame) in omega arith)
 
   -- only an operand that stops and a finished type have ended

@@ -169,6 +169,7 @@ module _ (reading : Part → List Field → Result ℕ Denial) (page : List ℕ)
       pub tree : Tree
       pub is : all ≡ took tree place
       pub nodes : N′ ≡ S ++ lay (length S) None tree
+      pub few : length N′ ≤ length S + place
 
     pub record Turned (S N′ : List Node) (r : Refusal) : Type 0 where
       pub is : all ≡ refused r
@@ -203,14 +204,16 @@ Applied (Emit n next) F F′ N N′ r = (r ≡ Go next) × (F′ ≡ F) × (N′
 Applied (Ended x) F F′ N N′ r = (r ≡ Done) × (F′ ≡ F) × (N′ ≡ N)
 Applied (Refuse x) F F′ N N′ r = (r ≡ Back x) × (F′ ≡ F) × (N′ ≡ N)
 
--- what a reading does to the output N: the nodes of its tree behind it, or, where it is refused, anything behind it
-pub record Written (N N′ : List Node) (t : Tree) : Type 0 where
+-- what a reading does to the output N: the nodes of its tree behind it, at most one for each token that was read, or, where
+-- it is refused, anything behind it
+pub record Written (N N′ : List Node) (t : Tree) (stop : ℕ) : Type 0 where
   pub nodes : N′ ≡ N ++ lay (length N) None t
+  pub few : length N′ ≤ length N + stop
 
 pub record Undone (N N′ : List Node) : Type 0 where
   pub more : List Node
   pub nodes : N′ ≡ N ++ more
 
 abbrev pub Read : Outcome → List Node → List Node → Type 0
-Read (took t q) N N′ = Written N N′ t
+Read (took t q) N N′ = Written N N′ t q
 Read (refused r) N N′ = Undone N N′

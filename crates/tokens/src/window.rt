@@ -7,9 +7,9 @@ use super::Token;
 mod peeks;
 
 #[derive(Clone, Copy)]
-pub struct Window<'a> {
-    page: &'a [u8],
-    tokens: &'a [Token],
+pub struct Window<'p, 't> {
+    page: &'p [u8],
+    tokens: &'t [Token],
     place: usize,
     end: usize,
     ghost inside: { end ≤ length (value tokens) },

@@ -1,5 +1,6 @@
 // The nodes of a rule, and the trees that they stand for.
 ghost use mathlib.Core.Path.{_≡_};
+ghost use Prim.Native.Nat.{_≤_};
 ghost use Rattle.trees.specs.Kinds.{kindNumber};
 
 // What a node is. The order is that of the numbers, from 1.
@@ -44,7 +45,8 @@ pub enum Kind {
 
 impl Kind {
     pub fn number(self) -> u8
-        ensures { λ r. ⌜ r ≡ kindNumber self ⌝ }
+        ensures value { λ r. ⌜ r ≡ kindNumber self ⌝ }
+        ensures within { λ r. ⌜ r ≤ 35 ⌝ }
     {
         self as u8 + 1
     }

@@ -11,9 +11,9 @@ use super::super::Look;
 use super::super::Token;
 use super::super::Word;
 
-impl<'a> Window<'a> {
+impl<'p, 't> Window<'p, 't> {
     // The whole of a page's tokens.
-    pub fn new(page: &'a [u8], tokens: &'a [Token]) -> Window<'a>
+    pub fn new(page: &'p [u8], tokens: &'t [Token]) -> Window<'p, 't>
         ensures page { λ r. ⌜ now (r .page) ≡ now (page .entry) ⌝ }
         ensures tokens { λ r. ⌜ now (r .tokens) ≡ now (tokens .entry) ⌝ }
         ensures place { λ r. ⌜ r .place ≡ 0 ⌝ }
@@ -23,7 +23,7 @@ impl<'a> Window<'a> {
     }
 
     // The same tokens from another place to another end, which lies no further than this one's.
-    pub fn level(self, place: usize, end: usize) -> Window<'a>
+    pub fn level(self, place: usize, end: usize) -> Window<'p, 't>
         ensures page { λ r. ⌜ now (r .page) ≡ now (self .entry .page) ⌝ }
         ensures tokens { λ r. ⌜ now (r .tokens) ≡ now (self .entry .tokens) ⌝ }
         ensures place { λ r. ⌜ r .place ≡ place ⌝ }

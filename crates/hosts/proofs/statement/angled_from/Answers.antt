@@ -1,7 +1,7 @@
-use mathlib.Core.Path.{_≡_, refl, sym, ap, _∙_}
+use mathlib.Core.Path.{_≡_, refl, sym, _∙_}
 use mathlib.Core.List.{List}
 use mathlib.Core.Bool.{true, false}
-use Prim.Native.Nat.{ℕ, _+_, _<_}
+use Prim.Native.Nat.{ℕ, _+_}
 use native.Mathlib.Omega.{arith}
 use lib.Dec.{eqb}
 use lib.ListN.{drop}
@@ -23,17 +23,17 @@ closed p r n l a some b = grind (arith, tells)
 
 pub returns-then-next-at : need.returns-then-next-at
 returns-then-next-at c =
-    let next = later _ _ (c .args .w .inside) typeLength (c .args .at) _ _ 1 (c .type-from-next .ensures) refl in
+    let next = later _ _ typeLength (c .args .at) _ _ 1 (c .type-from-next .ensures) refl in
     simp (sym (c .if-not-mark-at .ensures tt .value)) (nothing _ _ _ _ _ next (c .if-next-at .taken))
 
 pub returns-then-mark-at : need.returns-then-mark-at
 returns-then-mark-at c =
-    let next = later _ _ (c .args .w .inside) typeLength (c .args .at) _ _ 1 (c .type-from-next .ensures) refl in
-    let mark = there _ _ (c .args .w .inside) (λ l. eqb (firstMark l) greater) _ _ 1 _ next in
+    let next = later _ _ typeLength (c .args .at) _ _ 1 (c .type-from-next .ensures) refl in
+    let mark = there _ _ (λ l. eqb (firstMark l) greater) _ _ 1 _ next in
     simp (sym (c .if-not-mark-at .ensures tt .value)) (closed _ _ _ _ next (c .if-next-at .left) (sym (c .if-mark-at .ensures tt .value ∙ mark)))
 
 pub returns-else-mark-at : need.returns-else-mark-at
 returns-else-mark-at c =
-    let next = later _ _ (c .args .w .inside) typeLength (c .args .at) _ _ 1 (c .type-from-next .ensures) refl in
-    let mark = there _ _ (c .args .w .inside) (λ l. eqb (firstMark l) greater) _ _ 1 _ next in
+    let next = later _ _ typeLength (c .args .at) _ _ 1 (c .type-from-next .ensures) refl in
+    let mark = there _ _ (λ l. eqb (firstMark l) greater) _ _ 1 _ next in
     simp (sym (c .if-not-mark-at .ensures tt .value)) (unclosed _ _ _ _ next (sym (c .if-mark-at .ensures tt .value ∙ mark)))

@@ -5,10 +5,10 @@ use Rattle.hosts.proofs.statement.arguments_from.Needs as need
 
 pub returns-then-next-at : need.returns-then-next-at
 returns-then-next-at c =
-    let next = later _ _ (c .args .w .inside) angledLength (c .args .at) _ _ 2 (c .angled-from-next .ensures) refl in
+    let next = later _ _ angledLength (c .args .at) _ _ 2 (c .angled-from-next .ensures) refl in
     simp (sym (c .if-colons-at .ensures tt .value)) (behind-some _ _ _ _ _ refl next (c .if-next-at .taken))
 
 pub returns-else-next-at : need.returns-else-next-at
 returns-else-next-at c =
-    let next = later _ _ (c .args .w .inside) angledLength (c .args .at) _ _ 2 (c .angled-from-next .ensures) refl in
+    let next = later _ _ angledLength (c .args .at) _ _ 2 (c .angled-from-next .ensures) refl in
     simp (sym (c .if-colons-at .ensures tt .value)) (behind-none _ _ _ _ _ next (c .if-next-at .left))

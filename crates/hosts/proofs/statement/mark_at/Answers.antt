@@ -9,5 +9,5 @@ pub returns : need.returns
 returns c =
     record {
       value = ap (λ m. eqb m (c .args .c)) (c .mark .ensures ∙ mark-first _ _ _ (c .args .w .inside));
-      room = λ some t. let m = c .mark .ensures in grind (arith, tells)
+      room = λ some t. let m = c .mark .ensures in grind (arith, tells);
     }

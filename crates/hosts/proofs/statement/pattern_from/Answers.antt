@@ -1,4 +1,4 @@
-use mathlib.Core.Path.{_≡_, refl, sym}
+use mathlib.Core.Path.{_≡_, sym}
 use mathlib.Core.List.{List}
 use Prim.Native.Nat.{ℕ, _+_, _<_}
 use native.Mathlib.Omega.{arith}
@@ -16,5 +16,5 @@ with-group p q r n l a b some = grind (arith, tells)
 pub returns-then-next-at : need.returns-then-next-at
 returns-then-next-at c =
     let next = c .path-from-next .ensures in
-    let end = later _ _ (c .args .w .inside) (groupLength Paren) (c .args .at) _ _ _ (c .group-from .ensures) next in
+    let end = later _ _ (groupLength Paren) (c .args .at) _ _ _ (c .group-from .ensures) next in
     simp (sym (c .if-alone-at .ensures tt .value)) (with-group _ _ _ _ _ next end (c .if-next-at .taken))

@@ -1,10 +1,10 @@
-use mathlib.Core.Path.{sym, ap}
+use mathlib.Core.Path.{refl, sym}
 use native.Mathlib.Omega.{arith}
 use Rattle.hosts.specs.Statements.{further}
-use Rattle.hosts.proofs.Levels.{looks-drop}
+use Rattle.hosts.proofs.Steps.{later}
 use Rattle.hosts.proofs.statement.segments_from.Needs as need
 
 pub returns-then-segment-at : need.returns-then-segment-at
 returns-then-segment-at c =
-    let on = ap further (looks-drop _ (c .args .at) _ 1 (c .args .w .inside)) in
-    simp (sym (c .if-segment-at .ensures tt .value)) (omega (arith, on, c .further-from .ensures))
+    let next = later _ _ further (c .args .at) _ _ 1 (c .further-from .ensures) refl in
+    simp (sym (c .if-segment-at .ensures tt .value)) (omega (arith, next))

@@ -1,19 +1,30 @@
--- the table's rule, at each of its 256 entries, by one test that antt computes
+-- The rule of the table, at each of its 256 entries, by one test that antt computes.
 use mathlib.Core.Bool.{Bool}
-use mathlib.Core.List.{List, [], _∷_}
+use mathlib.Core.List.{List, [], _∷_, _++_}
 use mathlib.Core.Path.{_≡_, refl, sym, ap, _∙_}
 use Prim.Native.Nat.{ℕ}
 use borrow.Author.Needs.{needs}
 use lib.Dec.{eqb, eqb→eq}
-use lib.ListN.{getD}
+use lib.ListN.{getD, replicate}
 use Rattle.pages.specs.Classes.{classOf}
 use Rattle.pages.specs.declared.classes.Class.{Class}
 use Rattle.pages.specs.declared.classes.Class.the-variants.{Other, Letter, Digit, Mark, Opener, Closer}
 use Rattle.pages.proofs.Table.{at}
 use Rattle.pages.proofs.classes.class_of.Needs as need
 
+-- the entries of the table
 classes : List Class
-classes = Other ∷ Other ∷ Other ∷ Other ∷ Other ∷ Other ∷ Other ∷ Other ∷ Other ∷ Other ∷ Other ∷ Other ∷ Other ∷ Other ∷ Other ∷ Other ∷ Other ∷ Other ∷ Other ∷ Other ∷ Other ∷ Other ∷ Other ∷ Other ∷ Other ∷ Other ∷ Other ∷ Other ∷ Other ∷ Other ∷ Other ∷ Other ∷ Other ∷ Mark ∷ Other ∷ Mark ∷ Mark ∷ Mark ∷ Mark ∷ Other ∷ Opener ∷ Closer ∷ Mark ∷ Mark ∷ Mark ∷ Mark ∷ Mark ∷ Mark ∷ Digit ∷ Digit ∷ Digit ∷ Digit ∷ Digit ∷ Digit ∷ Digit ∷ Digit ∷ Digit ∷ Digit ∷ Mark ∷ Mark ∷ Mark ∷ Mark ∷ Mark ∷ Mark ∷ Mark ∷ Letter ∷ Letter ∷ Letter ∷ Letter ∷ Letter ∷ Letter ∷ Letter ∷ Letter ∷ Letter ∷ Letter ∷ Letter ∷ Letter ∷ Letter ∷ Letter ∷ Letter ∷ Letter ∷ Letter ∷ Letter ∷ Letter ∷ Letter ∷ Letter ∷ Letter ∷ Letter ∷ Letter ∷ Letter ∷ Letter ∷ Opener ∷ Other ∷ Closer ∷ Mark ∷ Letter ∷ Other ∷ Letter ∷ Letter ∷ Letter ∷ Letter ∷ Letter ∷ Letter ∷ Letter ∷ Letter ∷ Letter ∷ Letter ∷ Letter ∷ Letter ∷ Letter ∷ Letter ∷ Letter ∷ Letter ∷ Letter ∷ Letter ∷ Letter ∷ Letter ∷ Letter ∷ Letter ∷ Letter ∷ Letter ∷ Letter ∷ Letter ∷ Opener ∷ Mark ∷ Closer ∷ Mark ∷ Other ∷ Other ∷ Other ∷ Other ∷ Other ∷ Other ∷ Other ∷ Other ∷ Other ∷ Other ∷ Other ∷ Other ∷ Other ∷ Other ∷ Other ∷ Other ∷ Other ∷ Other ∷ Other ∷ Other ∷ Other ∷ Other ∷ Other ∷ Other ∷ Other ∷ Other ∷ Other ∷ Other ∷ Other ∷ Other ∷ Other ∷ Other ∷ Other ∷ Other ∷ Other ∷ Other ∷ Other ∷ Other ∷ Other ∷ Other ∷ Other ∷ Other ∷ Other ∷ Other ∷ Other ∷ Other ∷ Other ∷ Other ∷ Other ∷ Other ∷ Other ∷ Other ∷ Other ∷ Other ∷ Other ∷ Other ∷ Other ∷ Other ∷ Other ∷ Other ∷ Other ∷ Other ∷ Other ∷ Other ∷ Other ∷ Other ∷ Other ∷ Other ∷ Other ∷ Other ∷ Other ∷ Other ∷ Other ∷ Other ∷ Other ∷ Other ∷ Other ∷ Other ∷ Other ∷ Other ∷ Other ∷ Other ∷ Other ∷ Other ∷ Other ∷ Other ∷ Other ∷ Other ∷ Other ∷ Other ∷ Other ∷ Other ∷ Other ∷ Other ∷ Other ∷ Other ∷ Other ∷ Other ∷ Other ∷ Other ∷ Other ∷ Other ∷ Other ∷ Other ∷ Other ∷ Other ∷ Other ∷ Other ∷ Other ∷ Other ∷ Other ∷ Other ∷ Other ∷ Other ∷ Other ∷ Other ∷ Other ∷ Other ∷ Other ∷ Other ∷ Other ∷ Other ∷ Other ∷ Other ∷ Other ∷ Other ∷ Other ∷ Other ∷ Other ∷ []
+classes =
+    replicate 33 Other
+    ++ (Mark ∷ Other ∷ Mark ∷ Mark ∷ Mark ∷ Mark ∷ Other ∷ Opener ∷ Closer ∷ []
+    ++ (replicate 6 Mark
+    ++ (replicate 10 Digit
+    ++ (replicate 7 Mark
+    ++ (replicate 26 Letter
+    ++ (Opener ∷ Other ∷ Closer ∷ Mark ∷ Letter ∷ Other ∷ []
+    ++ (replicate 26 Letter
+    ++ (Opener ∷ Mark ∷ Closer ∷ Mark ∷ []
+    ++ replicate 129 Other))))))))
 
 abbrev number : Class → ℕ
 number Other = 0

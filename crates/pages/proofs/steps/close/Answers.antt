@@ -8,8 +8,10 @@ use Rattle.lists.specs.Lists.{items, used, room}
 use Rattle.std.proofs.shelf.Lists.{length-take-le}
 use Rattle.std.proofs.shelf.Results.{cases-at-some}
 use Rattle.std.proofs.shelf.Tests.{ltb-true}
+use Rattle.tokens.specs.declared.Look.the-variants.{Open}
 use Rattle.tokens.specs.declared.Token.{Token}
-use Rattle.pages.proofs.Stepping.{gave, opener, closes}
+use Rattle.pages.specs.Steps.{relooked}
+use Rattle.pages.proofs.Stepping.{gave, closes}
 use Rattle.pages.proofs.steps.close.Needs as need
 
 pub returns : need.returns
@@ -27,13 +29,14 @@ returns c =
     record {
       stepped = (
         closes (min (room l) 4096) (c .args .at) ts (c .args .token) (c .get-opener .result) (c .args .delimiter) (c .in-Open .opened) p (c .in-Open .back) (c .in-Continue-closer .closer)
-        (c .args .inner) (c .opener-around .result) (items (c .put .last .self)) (c .in-Some .is) within (c .get-opener .ensures) (c .in-Open .is)
-        (sym (c .if-not-same-delimiter .ensures tt)) many (omega (arith, pushed .1))
-        (c .put .ensures .items ∙ ap (λ (x : List Token). set x p (opener (min (room l) 4096) (c .args .at) ts (c .args .token) (c .get-opener .result) (c .args .delimiter) (c .in-Open .opened) p (c .in-Open .back) (c .in-Continue-closer .closer))) (grown .list))
-        (c .opener-around .ensures),
+            (c .args .inner) (c .opener-around .result) (items (c .put .last .self)) (c .in-Some .is) within (c .get-opener .ensures) (c .in-Open .is)
+            (sym (c .if-not-same-delimiter .ensures tt)) many (omega (arith, pushed .1))
+            (c .put .ensures .items ∙ ap (λ (x : List Token). set x p (relooked (c .get-opener .result) (Open (c .in-Open .opened) (c .in-Continue-closer .closer - p + 1)))) (grown .list))
+            (c .opener-around .ensures),
         c .put .ensures .rest ∙ grown .behind,
         c .put .ensures .count ∙ grown .count,
-        omega (arith, c .put .ensures .count, c .put .ensures .room, c .add .ensures .room, grown .count));
+        omega (arith, c .put .ensures .count, c .put .ensures .room, c .add .ensures .room, grown .count),
+      );
       room = c .put .ensures .room ∙ c .add .ensures .room;
-      lender = (c .put .ensures .lender .0 ∙ c .add .ensures .lender .0, c .put .ensures .lender .1 ∙ c .add .ensures .lender .1)
+      lender = (c .put .ensures .lender .0 ∙ c .add .ensures .lender .0, c .put .ensures .lender .1 ∙ c .add .ensures .lender .1);
     }

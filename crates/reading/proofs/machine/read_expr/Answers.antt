@@ -26,7 +26,7 @@ returns-in-Done g c =
     let o = c .in-Done .ensures tt .kept _ (items (c .args .nodes .now)) (c .loop-next .inv .0) in
     record {
       value = sym (ap answer (o .is));
-      written = subst (λ (x : Outcome). Read x (items (c .args .nodes .now)) (items (c .turn-once .last .nodes))) (sym (o .is)) (record { nodes = o .nodes });
+      written = subst (λ (x : Outcome). Read x (items (c .args .nodes .now)) (items (c .turn-once .last .nodes))) (sym (o .is)) (record { nodes = o .nodes; few = o .few });
       room = c .in-Done .ensures tt .nodes-room ∙ c .loop-next .inv .4;
       within = c .in-Done .ensures tt .nodes-in;
       lent = (c .in-Done .ensures tt .nodes-lent .0 ∙ c .loop-next .inv .6 .0, c .in-Done .ensures tt .nodes-lent .1 ∙ c .loop-next .inv .6 .1);

@@ -1,0 +1,4 @@
+pub mod Knots
+pub mod Rows
+pub mod Readings
+pub mod Examples

@@ -1,0 +1,5 @@
+mod Readings
+mod Enterings
+mod Models
+mod Shorts
+mod Follow
