@@ -1,10 +1,10 @@
 -- A page is its fields in order: their tokens, up to the first field that is refused. Assumes nothing.
 use mathlib.Core.Bool.{cond}
-use mathlib.Core.List.{List, []}
+use mathlib.Core.List.{List, [], _++_}
 use mathlib.Core.Path.{_≡_}
 use Prim.Native.Nat.{ℕ, zero, suc, _+_, _-_, _<_, _≤_, min}
 use lib.Dec.{ltb}
-use lib.ListN.{length, getD}
+use lib.ListN.{length, getD, drop}
 use Rattle.std.specs.declared.option.Option.{Option}
 use Rattle.std.specs.declared.option.Option.the-variants.{Some, None}
 use Rattle.std.specs.declared.result.Result.{Result}
@@ -67,6 +67,10 @@ answer (Some e) n = Err e
 -- the number of tokens, or the first refusal
 abbrev pub pageAnswer : (room : ℕ) → List ℕ → Result ℕ Refusal
 pageAnswer room page = answer (faultOf room page) (length (tokensOf room page))
+
+-- a space after records are written at its start
+abbrev pub writtenOver : List Token → List Token → List Token
+writtenOver space ts = ts ++ drop (length ts) space
 
 -- what holds of a page that is accepted with n tokens, in a space of this size
 pub record Accepted (size : ℕ) (page : List ℕ) (n : ℕ) : Type 0 where

@@ -273,6 +273,7 @@ const CLASSES: [Class; 256] = [
     Class::Other,
 ];
 
+// The class of a byte.
 pub fn class_of(b: u8) -> Class
     ensures { λ r. ⌜ r ≡ classOf b ⌝ }
 {

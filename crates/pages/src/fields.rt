@@ -2,7 +2,6 @@
 ghost use mathlib.Core.Path.{_≡_};
 ghost use Prim.Native.Nat.{_+_, _<_, _≤_, _^_};
 ghost use lib.ListN.{length};
-ghost use Rattle.std.specs.declared.option.Option.the-variants.{Some};
 ghost use Rattle.pages.specs.Fields.{tagOf, limits, markLook, delimiterOf, openLook, closeLook, lookOf, looked, tagged, headed, fieldAt};
 use super::classes::Class;
 use super::classes::class_of;
@@ -28,6 +27,7 @@ enum Tag {
     Closer,
 }
 
+// The kind of field that a tag byte names.
 fn tag_of(b: u8) -> Option<Tag>
     ensures { λ r. ⌜ r ≡ tagOf b ⌝ }
 {
@@ -58,6 +58,7 @@ fn limits_of(tag: Tag) -> (usize, usize)
     }
 }
 
+// A mark's character, then 1 if it is joined to a next mark, else 0.
 fn mark_look(bytes: &[u8]) -> Option<Look>
     ensures { λ r. ⌜ r ≡ markLook (now (bytes .entry)) ⌝ }
 {
@@ -70,6 +71,7 @@ fn mark_look(bytes: &[u8]) -> Option<Look>
     }
 }
 
+// The kind of a delimiter, of an opener or a closer.
 fn delimiter_of(b: u8) -> Delimiter
     ensures { λ r. ⌜ r ≡ delimiterOf b ⌝ }
 {
@@ -80,6 +82,7 @@ fn delimiter_of(b: u8) -> Delimiter
     }
 }
 
+// How many tokens the group has is not known before its closer.
 fn open_look(bytes: &[u8]) -> Option<Look>
     ensures { λ r. ⌜ r ≡ openLook (now (bytes .entry)) ⌝ }
 {

@@ -1,12 +1,11 @@
 // Pages: rows of fields, turned into tokens.
-ghost use mathlib.Core.List.{_++_};
 ghost use mathlib.Core.Path.{_≡_};
-ghost use Prim.Native.Nat.{_≤_, min};
-ghost use lib.ListN.{length, drop};
+ghost use Prim.Native.Nat.{min};
+ghost use lib.ListN.{length};
 ghost use Rattle.std.specs.Results.{Cases};
 ghost use Rattle.std.specs.Vec.{made};
 ghost use Rattle.std.specs.declared.result.Result.the-variants.{Ok, Err};
-ghost use Rattle.pages.specs.Pages.{tokensOf, pageAnswer, Accepted, textOf};
+ghost use Rattle.pages.specs.Pages.{tokensOf, pageAnswer, writtenOver, Accepted, textOf};
 pub use classes::Class;
 pub use classes::class_of;
 use lists::Counted;
@@ -23,11 +22,11 @@ mod values;
 mod walk;
 mod words;
 
-// Reads a page into a space for tokens, and answers how many there are. Where it is refused, the space holds the tokens
-// of the fields before.
+// Reads a page into a space for tokens, and answers how many there are: at most 4096, and no more than the space has.
+// Where the page is refused, the space holds the tokens of the fields before.
 pub fn read_page(page: &[u8], space: &mut [Token]) -> Result<usize, Refusal>
     ensures answer { λ r. ⌜ r ≡ pageAnswer (min (length (now (space .entry))) 4096) (now (page .entry)) ⌝ }
-    ensures records { λ _. ⌜ now (space .exit) ≡ tokensOf (min (length (now (space .entry))) 4096) (now (page .entry)) ++ drop (length (tokensOf (min (length (now (space .entry))) 4096) (now (page .entry)))) (now (space .entry)) ⌝ }
+    ensures records { λ _. ⌜ now (space .exit) ≡ writtenOver (now (space .entry)) (tokensOf (min (length (now (space .entry))) 4096) (now (page .entry))) ⌝ }
     ensures accepted { λ r. ⌜ made r (Accepted (length (now (space .entry))) (now (page .entry))) ⌝ }
 {
     let mut count = 0;
@@ -35,7 +34,7 @@ pub fn read_page(page: &[u8], space: &mut [Token]) -> Result<usize, Refusal>
     walk(page, &mut list)
 }
 
-// The bytes of the value of a page's token.
+// The value of the token at this place, as a part of the page. A page is refused as in a space for 4096 tokens.
 pub fn text<'a>(page: &'a [u8], place: usize) -> Result<&'a [u8], Refusal>
     ensures { λ r. ⌜ Cases r (λ v. textOf (now (page .entry)) place ≡ Ok (now v)) (λ e. textOf (now (page .entry)) place ≡ Err e) ⌝ }
 {

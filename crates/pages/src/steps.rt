@@ -15,6 +15,7 @@ use tokens::Delimiter;
 use tokens::Look;
 use tokens::Token;
 
+// No page has more tokens.
 const MOST_TOKENS: usize = 4096;
 
 // Adds a token at the end and answers its place, if there is room.
@@ -46,6 +47,7 @@ fn same_delimiter(a: Delimiter, b: Delimiter) -> bool
 }
 
 // How many places before this one the innermost opener stands, 0 where there is none.
+// An opener stands before the place, so the difference is never cut off at 0, here and below.
 fn places_back(place: usize, inner: Option<usize>) -> usize
     ensures { λ r. ⌜ r ≡ placesBack place inner ⌝ }
 {

@@ -1,13 +1,12 @@
 // The walk over a page, field after field.
-ghost use mathlib.Core.List.{_++_};
 ghost use mathlib.Core.Path.{_≡_};
-ghost use Prim.Native.Nat.{ℕ, _<_, _≤_, min};
-ghost use lib.ListN.{length, drop, getD};
+ghost use Prim.Native.Nat.{_<_, _≤_, min};
+ghost use lib.ListN.{getD};
 ghost use Rattle.std.specs.Options.{Cases};
 ghost use Rattle.std.specs.Vec.{made};
 ghost use Rattle.lists.specs.Lists.{items, used, room, Lent};
 ghost use Rattle.tokens.specs.Looks.{noToken};
-ghost use Rattle.pages.specs.Pages.{answer, stillOpen, tokensOf, pageAnswer, Accepted};
+ghost use Rattle.pages.specs.Pages.{answer, stillOpen, tokensOf, pageAnswer, writtenOver, Accepted};
 use super::fields::field_at;
 use super::steps::take_in;
 use lists::Counted;
@@ -30,7 +29,7 @@ fn finish(list: &Counted<Token>, inner: Option<usize>) -> Result<usize, Refusal>
 pub fn walk(page: &[u8], list: &mut Counted<Token>) -> Result<usize, Refusal>
     requires { ⌜ used (now list) ≡ 0 ⌝ }
     ensures answer { λ r. ⌜ r ≡ pageAnswer (min (room (now (list .entry))) 4096) (now (page .entry)) ⌝ }
-    ensures records { λ _. ⌜ now (now (list .exit) .space) ≡ tokensOf (min (room (now (list .entry))) 4096) (now (page .entry)) ++ drop (length (tokensOf (min (room (now (list .entry))) 4096) (now (page .entry)))) (now (now (list .entry) .space)) ⌝ }
+    ensures records { λ _. ⌜ now (now (list .exit) .space) ≡ writtenOver (now (now (list .entry) .space)) (tokensOf (min (room (now (list .entry))) 4096) (now (page .entry))) ⌝ }
     ensures accepted { λ r. ⌜ made r (Accepted (room (now (list .entry))) (now (page .entry))) ⌝ }
     ensures lender { λ _. ⌜ Lent (now (list .entry)) (now (list .exit)) ⌝ }
 {

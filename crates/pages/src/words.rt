@@ -4,6 +4,7 @@ ghost use Rattle.std.specs.shelf.Text.{sameBytes};
 ghost use Rattle.pages.specs.Words.{wordOf, spelled, spellings, ofLength};
 use tokens::Word;
 
+// Whether a name is this word.
 fn spells(bytes: &[u8], word: &[u8]) -> bool
     ensures { λ r. ⌜ r ≡ sameBytes (now (bytes .entry)) (now (word .entry)) ⌝ }
 {
@@ -160,6 +161,7 @@ fn word_of_eight(bytes: &[u8]) -> Word
     }
 }
 
+// What a name spells.
 pub fn word_of(bytes: &[u8]) -> Word
     ensures { λ r. ⌜ r ≡ wordOf (now (bytes .entry)) ⌝ }
 {

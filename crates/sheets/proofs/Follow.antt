@@ -22,12 +22,12 @@ use Rattle.tokens.specs.Looks.{Field}
 use Rattle.trees.specs.declared.Node.{Node}
 use Rattle.trees.specs.Layout.{size, lay}
 use Rattle.hosts.specs.Lawful.{Lawful}
-use Rattle.pages.specs.Pages.{tokensOf}
 use Rattle.lines.specs.Lines.{headingBytes, written}
 use Rattle.sheets.specs.declared.records.Rule.{Rule}
 use Rattle.sheets.specs.Model.{Reading, Model, Entry, Room, sizes, ruleAt, nodesFrom, rulesFrom, entryOf, tokenRoom, spaceAfter, numbered, added, noNode, nodeBytes, lineOf, nextOf, call-enter, call-totals, call-heading, call-line, says-number, says-totals, says-bytes}
 use Rattle.sheets.specs.States.{State, roomOf, nodesOf, rulesOf, Short, Holds, Follows, Enters}
 use Rattle.sheets.proofs.Models.{sizes-more, nodes-more, rules-more}
+use Rattle.sheets.proofs.TokenRooms.{tokens-fit}
 use Rattle.sheets.proofs.Shorts.{short-append, short-at, Taken, taken-in}
 
 module _ (s t : State) (m : Model) (r : Result ℕ Refusal) (same : roomOf t ≡ roomOf s) (held : Holds s m) where
@@ -60,7 +60,7 @@ entered-answer (Ok e) s t n r q (a, b, c, d, f) = a ∙ ap Ok q
 entered-answer (Err x) s t n r q (a, b, c, d) = a
 
 module _ (s t : State) (reading : Reading) (law : (p : Part) (l : List Field) → Lawful l (reading p l)) (page : List ℕ) (space : List Token) (structs : Bool) (r : Result ℕ Refusal)
-  (few : length (tokensOf (tokenRoom space) page) ≤ 4096) (same : roomOf t ≡ roomOf s)
+  (same : roomOf t ≡ roomOf s)
   (done : Enters (entryOf (roomOf s) (s .totals .nodes) (s .totals .rules) reading page (tokenRoom space) structs) s t r) where
   abbrev entryAt : ℕ → ℕ → Result Entry Refusal
   entryAt n k = entryOf (roomOf s) n k reading page (tokenRoom space) structs
@@ -75,7 +75,7 @@ module _ (s t : State) (reading : Reading) (law : (p : Part) (l : List Field) �
     room = same;
     next = λ m held.
       entered-next s t m r same held (entryAt (sizes m) (length m))
-      (λ e q. taken-in (roomOf s) (sizes m) (length m) reading law page (tokenRoom space) structs e few q) (enters-at m held);
+      (λ e q. taken-in (roomOf s) (sizes m) (length m) reading law page (tokenRoom space) structs e (omega (arith, tokens-fit (tokenRoom space) page)) q) (enters-at m held);
     answer = λ m held.
       ap (λ (x : Result ℕ Refusal). says-number x after) (entered-answer (entryAt (sizes m) (length m)) s t (length m) r (held .some) (enters-at m held))
       ∙ ap (λ (x : List Token). says-number (numbered (length m) (entryAt (sizes m) (length m))) x) is;

@@ -3,3 +3,4 @@ mod Enterings
 mod Models
 mod Shorts
 mod Follow
+mod TokenRooms

@@ -5,7 +5,6 @@ ghost use Prim.Native.Nat.{ℕ, _+_, _-_, _<_, _≤_, min};
 ghost use lib.ListN.{length, take};
 ghost use denote.Ref.{name};
 ghost use Rattle.lines.specs.Lines.{headingBytes, written};
-ghost use Rattle.pages.specs.Pages.{tokensOf};
 ghost use Rattle.sheets.specs.Model.{Room, entryOf, tokenRoom, spaceAfter, lineOf, call-enter, call-totals, call-heading, call-line, says-number, says-totals, says-bytes};
 ghost use Rattle.sheets.specs.Sheets.{stateOf};
 ghost use Rattle.sheets.specs.States.{roomOf, nodesOf, Enters, Follows, Holds};
@@ -44,7 +43,6 @@ impl<'a, 'b> Sheet<'a, 'b> {
         ensures room { λ _. ⌜ roomOf (stateOf (now (self .exit))) ≡ roomOf (stateOf (now (self .entry))) ⌝ }
         ensures enters { λ r. ⌜ Enters (entryOf (roomOf (stateOf (now (self .entry)))) (now (self .entry) .totals .nodes) (now (self .entry) .totals .rules) (reading (now (host .entry))) (now (page .entry)) (tokenRoom (now (tokens .entry))) structs) (stateOf (now (self .entry))) (stateOf (now (self .exit))) r ⌝ }
         ensures tokens { λ _. ⌜ now (tokens .exit) ≡ spaceAfter (now (page .entry)) (now (tokens .entry)) ⌝ }
-        ensures few { λ _. ⌜ length (tokensOf (tokenRoom (now (tokens .entry))) (now (page .entry))) ≤ 4096 ⌝ }
     {
         let count = read_page(page, tokens)?;
         let Sheet { nodes, rules, totals, frames, .. } = self;
