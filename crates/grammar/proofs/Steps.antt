@@ -89,25 +89,25 @@ module _ (ts : List Token) (p e : ℕ) where
       cond-both (wordAt ts e (p + 1) word.Raw && wordAt ts e (p + 2) word.Mut) _ _ (GoodHead p e)
       (λ b. let l = word-in ts e (p + 2) word.Mut (both (wordAt ts e (p + 1) word.Raw) (wordAt ts e (p + 2) word.Mut) b .1) in (omega arith, omega arith))
       (λ _. cond-both (wordAt ts e (p + 1) word.Raw && wordAt ts e (p + 2) word.Const) _ _ (GoodHead p e)
-        (λ b. let l = word-in ts e (p + 2) word.Const (both (wordAt ts e (p + 1) word.Raw) (wordAt ts e (p + 2) word.Const) b .1) in (omega arith, omega arith))
-        (λ _. cond-both (wordAt ts e (p + 1) word.Mut) _ _ (GoodHead p e)
-          (λ b. let l = word-in ts e (p + 1) word.Mut b in (omega arith, omega arith))
-          (λ _. (omega arith, omega arith))))
+      (λ b. let l = word-in ts e (p + 2) word.Const (both (wordAt ts e (p + 1) word.Raw) (wordAt ts e (p + 2) word.Const) b .1) in (omega arith, omega arith))
+      (λ _. cond-both (wordAt ts e (p + 1) word.Mut) _ _ (GoodHead p e)
+      (λ b. let l = word-in ts e (p + 1) word.Mut b in (omega arith, omega arith))
+      (λ _. (omega arith, omega arith))))
 
   good-range : (f : Bool) → p + 1 < e → GoodHead p e (rangeHead ts f p e)
   good-range f h =
       cond-both (threeAt ts e p 46 46 61) _ _ (GoodHead p e)
       (λ b. let l = three-in ts e p 46 46 60 b in (omega arith, omega arith))
       (λ _. cond-both (threeAt ts e p 46 46 46) _ _ (GoodHead p e) (λ _. tt)
-        (λ _. cond-both (rangeEnds ts e (p + 2) f) _ _ (GoodHead p e) (λ _. (omega arith, omega arith)) (λ _. (omega arith, omega arith))))
+      (λ _. cond-both (rangeEnds ts e (p + 2) f) _ _ (GoodHead p e) (λ _. (omega arith, omega arith)) (λ _. (omega arith, omega arith))))
 
   good-group : (d : Delimiter) (n : ℕ) → GoodHead p e (groupHead p e d n)
   good-group Paren n =
       cond-both (leb n (e - p)) _ _ (GoodHead p e)
       (λ b. let l = leb-true n (e - p) b in
-        cond-both (eqb n 2) _ _ (GoodHead p e)
-        (λ c. let two = eqb-true n 2 c in (omega arith, omega arith))
-        (λ _. cond-both (ltb 2 n) _ _ (GoodHead p e) (λ c. let more = ltb-true 2 n c in (omega arith, omega arith, omega arith)) (λ _. tt)))
+      cond-both (eqb n 2) _ _ (GoodHead p e)
+      (λ c. let two = eqb-true n 2 c in (omega arith, omega arith))
+      (λ _. cond-both (ltb 2 n) _ _ (GoodHead p e) (λ c. let more = ltb-true 2 n c in (omega arith, omega arith, omega arith)) (λ _. tt)))
       (λ _. tt)
   good-group Bracket n = tt
   good-group Brace n = tt

@@ -152,7 +152,7 @@ module _ (reading : Part → List Field → Result ℕ Denial) (page : List ℕ)
     fromTail f b t p e (Casts i) =
         andThen (partAt kind.TypeName part.TypeName i e)
         (λ u q. cond (castFollowed ts q e) (refused (refusal.CastFollowed q))
-          (goOn f b (label kind.Cast 0 (labelOf t .from) q) (none then t then u) e))
+        (goOn f b (label kind.Cast 0 (labelOf t .from) q) (none then t then u) e))
     fromTail f b t p e Stop = took t p
     fromTail f b t p e (NoTail r) = refused r
 
@@ -160,7 +160,7 @@ module _ (reading : Part → List Field → Result ℕ Denial) (page : List ℕ)
     fromItems f b from us p c e =
         cond (eqb p c) (goOn f b (label kind.Tuple 0 from (c + 1)) us e)
         (andThen (read (expr true 0 p c))
-          (λ t q. afterItem kind.Tuple f b from (us then t) q c e))
+        (λ t q. afterItem kind.Tuple f b from (us then t) q c e))
 
     abbrev pub grammar : Task → Outcome
     grammar (expr f b p e) = fromHead f b p e (headAt reading page ts f p e)

@@ -98,7 +98,8 @@ fn name_head<H: Host>(host: &H, level: Window, word: Word) -> Head
     ensures { λ r. ⌜ r ≡ nameHead (reading (now (host .entry))) (now (level .entry .page)) (now (level .entry .tokens)) (level .entry .place) (level .entry .end) word ⌝ }
 {
     match word {
-        Word::Plain | Word::Raw | Word::SelfValue | Word::SelfType | Word::Super | Word::Crate => path_head(host, level),
+        Word::Plain | Word::Raw | Word::SelfValue | Word::SelfType | Word::Super | Word::Crate =>
+            path_head(host, level),
         Word::True | Word::False => Head::Leaf(Kind::Literal, level.place() + 1),
         Word::Underscore => Head::Leaf(Kind::Underscore, level.place() + 1),
         _ => Head::NoHead(Refusal::ExpressionExpected(level.place())),
@@ -138,8 +139,13 @@ pub fn see_head<H: Host>(host: &H, level: Window, structs: bool) -> Head
         None => Head::NoHead(Refusal::ExpressionExpected(level.end())),
         Some(Look::Name(word)) => name_head(host, level, word),
         Some(Look::Mark(c, _)) => mark_head(host, level, structs, c),
-        Some(Look::Integer) | Some(Look::Float) | Some(Look::Literal) => Head::Leaf(Kind::Literal, place + 1),
+        Some(Look::Integer) | Some(Look::Float) | Some(Look::Literal) => Head::Leaf(
+            Kind::Literal,
+            place + 1,
+        ),
         Some(Look::Open(delimiter, tokens)) => group_head(level, delimiter, tokens),
-        Some(Look::Lifetime) | Some(Look::Close(_)) => Head::NoHead(Refusal::ExpressionExpected(place)),
+        Some(Look::Lifetime) | Some(Look::Close(_)) => Head::NoHead(Refusal::ExpressionExpected(
+            place,
+        )),
     }
 }

@@ -2,6 +2,7 @@
 
 pub mod heads;
 pub mod tails;
+
 use operators::Infix;
 use refusals::Refusal;
 use trees::Kind;

@@ -18,7 +18,7 @@ patch : (p ys : List Node) (l : Label) (f nx : Option ℕ) (i r : ℕ) → lengt
 patch p ys l f nx i r is =
     let zero-on : i - i ≡ 0 = omega arith in
     let reads : getD (p ++ node l f nx ∷ ys) i noNode ≡ node l f nx =
-          getD-append-right p (node l f nx ∷ ys) i i noNode is (omega arith) ∙ ap (λ (k : ℕ). getD (node l f nx ∷ ys) k noNode) zero-on in
+    getD-append-right p (node l f nx ∷ ys) i i noNode is (omega arith) ∙ ap (λ (k : ℕ). getD (node l f nx ∷ ys) k noNode) zero-on in
     ap (λ (n : Node). set (p ++ node l f nx ∷ ys) i (withNext n r)) reads ∙ set-at p (node l f nx) ys (node l f (Some r)) i is
 
 -- the last root of a row of children learns its sibling
@@ -29,6 +29,6 @@ relink (us then branch l vs) A B j r is =
     let Y = lays (j + sizes us) None vs in
     let f = firstAt (j + sizes us) vs in
     let long : length (A ++ (X ++ Y)) ≡ j + sizes us + sizes vs =
-          omega (arith, length-append A (X ++ Y), length-append X Y, lays-length us j (Some (rootAt (j + sizes us) (branch l vs))), lays-length vs (j + sizes us) None) in
+    omega (arith, length-append A (X ++ Y), length-append X Y, lays-length us j (Some (rootAt (j + sizes us) (branch l vs))), lays-length vs (j + sizes us) None) in
     let shape : (nx : Option ℕ) → A ++ ((X ++ (Y ++ node l f nx ∷ [])) ++ B) ≡ (A ++ (X ++ Y)) ++ node l f nx ∷ B = λ nx. simp append-assoc in
     ap (λ (N : List Node). linkTo N (Some (j + sizes us + sizes vs)) r) (shape None) ∙ patch (A ++ (X ++ Y)) B l f None (j + sizes us + sizes vs) r long ∙ sym (shape (Some r))

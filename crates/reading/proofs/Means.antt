@@ -74,15 +74,15 @@ module _ (reading : Part → List Field → Result ℕ Denial) (page : List ℕ)
     at-head h is = R-is (expr f b p e) ∙ ap (fromHead reading page ts (under (expr f b p e)) f b p e) is
 
     pub leaf-means : (k : Kind) (q : ℕ) → headAt reading page ts f p e ≡ Leaf k q → p < q → q ≤ e
-      → R (expr f b p e) ≡ R (climb f b (branch (label k 0 p q) none) q e)
+        → R (expr f b p e) ≡ R (climb f b (branch (label k 0 p q) none) q e)
     leaf-means k q is low high = at-head (Leaf k q) is ∙ R-asks (expr f b p e) (climb f b (branch (label k 0 p q) none) q e) (omega arith)
 
     pub prefix-means : (k : Kind) (o q r : ℕ) → headAt reading page ts f p e ≡ Prefix k o q r → p < q → q ≤ e
-      → R (expr f b p e) ≡ andThen (R (expr f r q e)) (afterBy reading page ts (job.Operand k o) (wait (frame (job.Operand k o) p b e f noLinks) p none) e)
+        → R (expr f b p e) ≡ andThen (R (expr f r q e)) (afterBy reading page ts (job.Operand k o) (wait (frame (job.Operand k o) p b e f noLinks) p none) e)
     prefix-means k o q r is low high = at-head (Prefix k o q r) is ∙ first (expr f b p e) (expr f r q e) _ (omega arith)
 
     pub group-means : (i c : ℕ) → headAt reading page ts f p e ≡ Group i c → p < i → i < c → c < e
-      → R (expr f b p e) ≡ andThen (R (expr true 0 i c)) (afterBy reading page ts job.First (wait (frame job.First p b e f noLinks) p none) c)
+        → R (expr f b p e) ≡ andThen (R (expr true 0 i c)) (afterBy reading page ts job.First (wait (frame job.First p b e f noLinks) p none) c)
     group-means i c is low mid high = at-head (Group i c) is ∙ first (expr f b p e) (expr true 0 i c) _ (omega arith)
 
   module _ (f : Bool) (b : ℕ) (t : Tree) (p e : ℕ) where
@@ -90,15 +90,15 @@ module _ (reading : Part → List Field → Result ℕ Denial) (page : List ℕ)
     at-tail h is = R-is (climb f b t p e) ∙ ap (fromTail reading page ts (under (climb f b t p e)) f b t p e) is
 
     pub takes-means : (k : Links) (o : Infix) (q : ℕ) → tailAt ts f b (treeRank t) p e ≡ Takes o q → p < q → q ≤ e
-      → R (climb f b t p e) ≡ andThen (R (expr f (aboveRank (rankOf o)) q e)) (afterBy reading page ts (job.Right o) (wait (frame (job.Right o) (labelOf t .from) b e f k) p (none then t)) e)
+        → R (climb f b t p e) ≡ andThen (R (expr f (aboveRank (rankOf o)) q e)) (afterBy reading page ts (job.Right o) (wait (frame (job.Right o) (labelOf t .from) b e f k) p (none then t)) e)
     takes-means k o q is low high = at-tail (Takes o q) is ∙ first (climb f b t p e) (expr f (aboveRank (rankOf o)) q e) _ (omega arith)
 
     pub endless-means : (q : ℕ) → tailAt ts f b (treeRank t) p e ≡ Endless q → p < q → q ≤ e
-      → R (climb f b t p e) ≡ R (climb f b (branch (label kind.Range 0 (labelOf t .from) q) (none then t)) q e)
+        → R (climb f b t p e) ≡ R (climb f b (branch (label kind.Range 0 (labelOf t .from) q) (none then t)) q e)
     endless-means q is low high = at-tail (Endless q) is ∙ R-asks (climb f b t p e) (climb f b (branch (label kind.Range 0 (labelOf t .from) q) (none then t)) q e) (omega arith)
 
     pub casts-means : (k : Links) (i : ℕ) → tailAt ts f b (treeRank t) p e ≡ Casts i
-      → R (climb f b t p e) ≡ andThen (partAt reading page ts kind.TypeName part.TypeName i e) (afterBy reading page ts job.CastTo (wait (frame job.CastTo (labelOf t .from) b e f k) p (none then t)) e)
+        → R (climb f b t p e) ≡ andThen (partAt reading page ts kind.TypeName part.TypeName i e) (afterBy reading page ts job.CastTo (wait (frame job.CastTo (labelOf t .from) b e f k) p (none then t)) e)
     casts-means k i is = at-tail (Casts i) is
 
   -- one step of a tuple's items behind a comma at p, by whether the closer is reached
@@ -108,11 +108,11 @@ module _ (reading : Part → List Field → Result ℕ Denial) (page : List ℕ)
       (andThen (R (expr true 0 (p + 1) c)) (afterBy reading page ts job.Item (wait (frame job.Item from b e f k) p us) c))
 
   pub items-means : (k : Links) (f : Bool) (b from : ℕ) (us : Trees) (p c e : ℕ) → p < c → c < e
-    → R (items f b from us (p + 1) c e) ≡ itemsBy k (eqb (p + 1) c) f b from us p c e
+      → R (items f b from us (p + 1) c e) ≡ itemsBy k (eqb (p + 1) c) f b from us p c e
   items-means k f b from us p c e low high =
       let q = items f b from us (p + 1) c e in
       R-is q
       ∙ ap (λ (o : Outcome). cond (eqb (p + 1) c) o (andThen (under q (expr true 0 (p + 1) c)) (afterBy reading page ts job.Item (wait (frame job.Item from b e f k) p us) c)))
-        (R-asks q (climb f b (branch (label kind.Tuple 0 from (c + 1)) us) (c + 1) e) (omega arith))
+      (R-asks q (climb f b (branch (label kind.Tuple 0 from (c + 1)) us) (c + 1) e) (omega arith))
       ∙ ap (λ (o : Outcome). cond (eqb (p + 1) c) (R (climb f b (branch (label kind.Tuple 0 from (c + 1)) us) (c + 1) e)) o)
-        (first q (expr true 0 (p + 1) c) (afterBy reading page ts job.Item (wait (frame job.Item from b e f k) p us) c) (omega arith))
+      (first q (expr true 0 (p + 1) c) (afterBy reading page ts job.Item (wait (frame job.Item from b e f k) p us) c) (omega arith))

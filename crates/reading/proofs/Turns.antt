@@ -100,15 +100,15 @@ module _ (reading : Part → List Field → Result ℕ Denial) (law : (w : Part)
   module _ (s : Spot) (N N′ : List Node) (F F₀ F′ : List Frame) (r : Turn) (ws : List Wait) where
     -- a node is written, which then stands left of the place
     emit-kept : (l : Label) (first : Option ℕ) (us : Trees) (e b : ℕ) (f : Bool) (now : Left)
-      → Base N F₀ ws us → first ≡ firstAt (up ws) us
-      → ((j : ℕ) → nodesBy j now (branch l us) ≡ lay j None (branch l us))
-      → (rootAt (up ws) (branch l us) ≡ length N → FitBy (up ws) now (branch l us))
-      → Levels ws (l .to) e → l .to ≤ e
-      → length N + 1 + length F₀ ≤ length S + l .to
-      → 2 * (top - l .to) + length F₀ < toGo reading page ts top all F s
-      → On ws e (aheadBy reading page ts now (spot (l .to) e b f now) (branch l us)) ≡ all
-      → Applied (Emit (node l first None) (spot (l .to) e b f now)) F₀ F′ N N′ r
-      → Keeps F s N′ F′ r
+        → Base N F₀ ws us → first ≡ firstAt (up ws) us
+        → ((j : ℕ) → nodesBy j now (branch l us) ≡ lay j None (branch l us))
+        → (rootAt (up ws) (branch l us) ≡ length N → FitBy (up ws) now (branch l us))
+        → Levels ws (l .to) e → l .to ≤ e
+        → length N + 1 + length F₀ ≤ length S + l .to
+        → 2 * (top - l .to) + length F₀ < toGo reading page ts top all F s
+        → On ws e (aheadBy reading page ts now (spot (l .to) e b f now) (branch l us)) ≡ all
+        → Applied (Emit (node l first None) (spot (l .to) e b f now)) F₀ F′ N N′ r
+        → Keeps F s N′ F′ r
     emit-kept l first us e b f now x firsts lays-it fits stack inside room falls means a =
         let fs = ap length (a .1) in
         let ns = ap length (a .2) ∙ length-push N (node l first None) in
@@ -120,11 +120,11 @@ module _ (reading : Part → List Field → Result ℕ Denial) (law : (w : Part)
             tree = branch l us;
             frames = a .1 ∙ x .flats;
             nodes =
-              a .2 ∙ ap (λ (i : Option ℕ). N ++ node l i None ∷ []) firsts
-              ∙ ap (λ (ns : List Node). ns ++ last ∷ []) (x .holds)
-              ∙ append-assoc S (spilled (length S) ws ++ lays (up ws) None us) (last ∷ [])
-              ∙ ap (λ (ns : List Node). S ++ ns) (append-assoc (spilled (length S) ws) (lays (up ws) None us) (last ∷ []))
-              ∙ ap (λ (ns : List Node). S ++ (spilled (length S) ws ++ ns)) (sym (lays-it (up ws)));
+                a .2 ∙ ap (λ (i : Option ℕ). N ++ node l i None ∷ []) firsts
+                ∙ ap (λ (ns : List Node). ns ++ last ∷ []) (x .holds)
+                ∙ append-assoc S (spilled (length S) ws ++ lays (up ws) None us) (last ∷ [])
+                ∙ ap (λ (ns : List Node). S ++ ns) (append-assoc (spilled (length S) ws) (lays (up ws) None us) (last ∷ []))
+                ∙ ap (λ (ns : List Node). S ++ (spilled (length S) ws ++ ns)) (sym (lays-it (up ws)));
             links = x .links;
             fit = fits (next-root N ws us (x .holds));
             stack = stack;
@@ -137,26 +137,26 @@ module _ (reading : Part → List Field → Result ℕ Denial) (law : (w : Part)
 
     -- a node is written that stands as an operand
     made-kept : (l : Label) (first : Option ℕ) (us : Trees) (e b c : ℕ) (f : Bool)
-      → Base N F₀ ws us → first ≡ firstAt (up ws) us → c ≡ length N
-      → Levels ws (l .to) e → l .to ≤ e
-      → length N + 1 + length F₀ ≤ length S + l .to
-      → 2 * (top - l .to) + length F₀ < toGo reading page ts top all F s
-      → On ws e (R reading page ts (climb f b (branch l us) (l .to) e)) ≡ all
-      → Applied (madeOf c l first b e f) F₀ F′ N N′ r
-      → Keeps F s N′ F′ r
+        → Base N F₀ ws us → first ≡ firstAt (up ws) us → c ≡ length N
+        → Levels ws (l .to) e → l .to ≤ e
+        → length N + 1 + length F₀ ≤ length S + l .to
+        → 2 * (top - l .to) + length F₀ < toGo reading page ts top all F s
+        → On ws e (R reading page ts (climb f b (branch l us) (l .to) e)) ≡ all
+        → Applied (madeOf c l first b e f) F₀ F′ N N′ r
+        → Keeps F s N′ F′ r
     made-kept l first us e b c f x firsts counts stack inside room falls means a =
         emit-kept l first us e b f (Operand (l .from) (rankBy (l .kind) (l .op)) c) x firsts (λ _. refl) (λ h. (refl, refl, h ∙ sym counts)) stack inside room falls means a
 
     -- a node is begun that waits
     push-kept : (w : Wait) (nb np ne : ℕ) (nf : Bool) (now : Left)
-      → Base N F₀ ws (w .held) → w .frame .links ≡ linksAt (up ws) (w .held)
-      → ((j : ℕ) → nodesBy j now dummy ≡ []) → ((j : ℕ) → FitBy j now dummy)
-      → Levels (w ∷ ws) np ne → np ≤ ne
-      → length N + (length F₀ + 1) ≤ length S + np
-      → 2 * (top - np) + (length F₀ + 1) < toGo reading page ts top all F s
-      → On ws (w .frame .end) (andThen (aheadBy reading page ts now (spot np ne nb nf now) dummy) (afterBy reading page ts (w .frame .job) w ne)) ≡ all
-      → Applied (Push (w .frame) (spot np ne nb nf now)) F₀ F′ N N′ r
-      → Keeps F s N′ F′ r
+        → Base N F₀ ws (w .held) → w .frame .links ≡ linksAt (up ws) (w .held)
+        → ((j : ℕ) → nodesBy j now dummy ≡ []) → ((j : ℕ) → FitBy j now dummy)
+        → Levels (w ∷ ws) np ne → np ≤ ne
+        → length N + (length F₀ + 1) ≤ length S + np
+        → 2 * (top - np) + (length F₀ + 1) < toGo reading page ts top all F s
+        → On ws (w .frame .end) (andThen (aheadBy reading page ts now (spot np ne nb nf now) dummy) (afterBy reading page ts (w .frame .job) w ne)) ≡ all
+        → Applied (Push (w .frame) (spot np ne nb nf now)) F₀ F′ N N′ r
+        → Keeps F s N′ F′ r
     push-kept w nb np ne nf now x linked none-yet fit stack inside room falls means a =
         let fs = ap length (a .1) ∙ length-push F₀ (w .frame) in
         let ns = ap length (a .2) in
@@ -167,9 +167,9 @@ module _ (reading : Part → List Field → Result ℕ Denial) (law : (w : Part)
             tree = dummy;
             frames = a .1 ∙ ap (λ (fs : List Frame). fs ++ w .frame ∷ []) (x .flats);
             nodes =
-              a .2 ∙ x .holds
-              ∙ ap (λ (ns : List Node). S ++ ns) (sym (append-nil (spilled (length S) (w ∷ ws))))
-              ∙ ap (λ (ns : List Node). S ++ (spilled (length S) (w ∷ ws) ++ ns)) (sym (none-yet (up (w ∷ ws))));
+                a .2 ∙ x .holds
+                ∙ ap (λ (ns : List Node). S ++ ns) (sym (append-nil (spilled (length S) (w ∷ ws))))
+                ∙ ap (λ (ns : List Node). S ++ (spilled (length S) (w ∷ ws) ++ ns)) (sym (none-yet (up (w ∷ ws))));
             links = (linked, x .links);
             fit = fit (up (w ∷ ws));
             stack = stack;
@@ -181,10 +181,10 @@ module _ (reading : Part → List Field → Result ℕ Denial) (law : (w : Part)
         })
 
     refuse-kept : (e : ℕ) (f : Refusal) (older : List Node)
-      → N ≡ S ++ older
-      → On ws e (refused f) ≡ all
-      → Applied (Refuse f) F₀ F′ N N′ r
-      → Keeps F s N′ F′ r
+        → N ≡ S ++ older
+        → On ws e (refused f) ≡ all
+        → Applied (Refuse f) F₀ F′ N N′ r
+        → Keeps F s N′ F′ r
     refuse-kept e f older holds means a =
         subst (Keeps F s N′ F′) (sym (a .0)) (record { is = sym means ∙ resume-refused reading page ts ws e f; more = older; nodes = a .2 ∙ holds })
 
@@ -192,9 +192,9 @@ module _ (reading : Part → List Field → Result ℕ Denial) (law : (w : Part)
 
   module _ (p e b : ℕ) (f : Bool) (N N′ : List Node) (F F′ : List Frame) (r : Turn) (c : ℕ) (counts : c ≡ length N) where
     head-kept : (h : Head) → headAt reading page ts f p e ≡ h → GoodHead p e h
-      → Stands N F (spot p e b f Nothing)
-      → Applied (beginOf c (spot p e b f Nothing) h) F F′ N N′ r
-      → Keeps F (spot p e b f Nothing) N′ F′ r
+        → Stands N F (spot p e b f Nothing)
+        → Applied (beginOf c (spot p e b f Nothing) h) F F′ N N′ r
+        → Keeps F (spot p e b f Nothing) N′ F′ r
     head-kept (Leaf k q) is good x a =
         let high = ends (x .waits) p e (x .stack) in
         made-kept (spot p e b f Nothing) N N′ F F F′ r (x .waits) (label k 0 p q) None none e b c f
@@ -217,9 +217,9 @@ module _ (reading : Part → List Field → Result ℕ Denial) (law : (w : Part)
         refuse-kept (spot p e b f Nothing) N N′ F F F′ r (x .waits) e y _ (x .nodes) (ap (On (x .waits) e) (sym (at-head reading page ts f b p e (NoHead y) is)) ∙ x .means) a
 
     type-kept : (o : Result ℕ Denial) → o ≡ reading part.TypeName (levelOf page ts p e)
-      → Stands N F (spot p e b f TypeWanted)
-      → Applied (typeOf c (spot p e b f TypeWanted) o) F F′ N N′ r
-      → Keeps F (spot p e b f TypeWanted) N′ F′ r
+        → Stands N F (spot p e b f TypeWanted)
+        → Applied (typeOf c (spot p e b f TypeWanted) o) F F′ N N′ r
+        → Keeps F (spot p e b f TypeWanted) N′ F′ r
     type-kept (Ok m) is x a =
         let high = ends (x .waits) p e (x .stack) in
         let t = taken page ts p e m _ is (law part.TypeName (levelOf page ts p e)) in
@@ -250,9 +250,9 @@ module _ (reading : Part → List Field → Result ℕ Denial) (law : (w : Part)
     tail-is h is = ap (λ (i : ℕ). tailAt ts f b i p e) (x .fit .1) ∙ is
 
     tail-kept : (N′ : List Node) (F′ : List Frame) (r : Turn) (c : ℕ) → c ≡ length N
-      → (h : Tail) → tailAt ts f b k p e ≡ h → GoodTail p e h → (h ≡ Stop → ⊥)
-      → Applied (goOf c (spot p e b f (Operand from k root)) from root h) F F′ N N′ r
-      → Keeps F (spot p e b f (Operand from k root)) N′ F′ r
+        → (h : Tail) → tailAt ts f b k p e ≡ h → GoodTail p e h → (h ≡ Stop → ⊥)
+        → Applied (goOf c (spot p e b f (Operand from k root)) from root h) F F′ N N′ r
+        → Keeps F (spot p e b f (Operand from k root)) N′ F′ r
     tail-kept N′ F′ r c counts (Takes o q) is good on a =
         let high = ends (x .waits) p e (x .stack) in
         let w : ℕ → Wait = λ i. wait (frame (job.Right o) i b e f (oneLink root)) p (none then x .tree) in
@@ -303,10 +303,10 @@ module _ (reading : Part → List Field → Result ℕ Denial) (law : (w : Part)
 
     -- the node that the frame waited to write; its task was asked for at a place a
     fold-kept : (j : Job) (d : Kind) (o to a : ℕ) → Closing s N F w ws t j k
-      → s .place ≤ to → to ≤ w .frame .end → a ≤ s .place → a < to
-      → On ws (w .frame .end) (goOn reading page ts (again reading page ts a (w .frame .end)) (w .frame .structs) (w .frame .base) (label d o (w .frame .from) to) (w .held then t) (w .frame .end)) ≡ all
-      → Applied (finishedOf c (filled j) d o to) (flat ws) F′ N N′ r
-      → Keeps F s N′ F′ r
+        → s .place ≤ to → to ≤ w .frame .end → a ≤ s .place → a < to
+        → On ws (w .frame .end) (goOn reading page ts (again reading page ts a (w .frame .end)) (w .frame .structs) (w .frame .base) (label d o (w .frame .from) to) (w .held then t) (w .frame .end)) ≡ all
+        → Applied (finishedOf c (filled j) d o to) (flat ws) F′ N N′ r
+        → Keeps F s N′ F′ r
     fold-kept j d o to a x further inside early earlier means ap-is =
         let u = climb (w .frame .structs) (w .frame .base) (branch (label d o (w .frame .from) to) (w .held then t)) to (w .frame .end) in
         let high = ends ws (w .at) (w .frame .end) (x .stack) in
@@ -318,9 +318,9 @@ module _ (reading : Part → List Field → Result ℕ Denial) (law : (w : Part)
 
     -- behind a comma
     more-kept : (j : Job) (closed : Bool) → shutOf j ≡ 1 → s .place < s .end → Closing s N F w ws t j k
-      → On ws (w .frame .end) (itemsBy reading page ts k closed (w .frame .structs) (w .frame .base) (w .frame .from) (w .held then t) (s .place) (s .end) (w .frame .end)) ≡ all
-      → Applied (cond closed (finishedOf c (filled j) kind.Tuple 0 (s .end + 1)) (Push (filled job.Item) (spot (s .place + 1) (s .end) 0 true Nothing))) (flat ws) F′ N N′ r
-      → Keeps F s N′ F′ r
+        → On ws (w .frame .end) (itemsBy reading page ts k closed (w .frame .structs) (w .frame .base) (w .frame .from) (w .held then t) (s .place) (s .end) (w .frame .end)) ≡ all
+        → Applied (cond closed (finishedOf c (filled j) kind.Tuple 0 (s .end + 1)) (Push (filled job.Item) (spot (s .place + 1) (s .end) 0 true Nothing))) (flat ws) F′ N N′ r
+        → Keeps F s N′ F′ r
     more-kept j true one lt x means a =
         let high = ends ws (w .at) (w .frame .end) (x .stack) in
         made-kept s N N′ F (flat ws) F′ r ws (label kind.Tuple 0 (w .frame .from) (s .end + 1)) (k .first) (w .held then t) (w .frame .end) (w .frame .base) c (w .frame .structs)
@@ -335,11 +335,11 @@ module _ (reading : Part → List Field → Result ℕ Denial) (law : (w : Part)
         means a
 
     comma-kept : (j : Job) (a : ℕ) (comma : Bool) → shutOf j ≡ 1 → a ≤ s .place → s .place < s .end → Closing s N F w ws t j k
-      → On ws (w .frame .end)
-          (cond comma (again reading page ts a (w .frame .end) (items (w .frame .structs) (w .frame .base) (w .frame .from) (w .held then t) (s .place + 1) (s .end) (w .frame .end)))
-            (refused (refusal.MarkExpected (s .place)))) ≡ all
-      → Applied (cond comma (nextItemOf c (filled j) (s .place) (s .end)) (Refuse (refusal.MarkExpected (s .place)))) (flat ws) F′ N N′ r
-      → Keeps F s N′ F′ r
+        → On ws (w .frame .end)
+        (cond comma (again reading page ts a (w .frame .end) (items (w .frame .structs) (w .frame .base) (w .frame .from) (w .held then t) (s .place + 1) (s .end) (w .frame .end)))
+        (refused (refusal.MarkExpected (s .place)))) ≡ all
+        → Applied (cond comma (nextItemOf c (filled j) (s .place) (s .end)) (Refuse (refusal.MarkExpected (s .place)))) (flat ws) F′ N N′ r
+        → Keeps F s N′ F′ r
     comma-kept j a true one early lt x means app =
         let u = items (w .frame .structs) (w .frame .base) (w .frame .from) (w .held then t) (s .place + 1) (s .end) (w .frame .end) in
         let go : again reading page ts a (w .frame .end) u ≡ R reading page ts u = again-is reading page ts a (w .frame .end) u (omega (arith, x .within)) in
@@ -349,14 +349,14 @@ module _ (reading : Part → List Field → Result ℕ Denial) (law : (w : Part)
         refuse-kept s N N′ F (flat ws) F′ r ws (w .frame .end) (refusal.MarkExpected (s .place)) _ (x .holds) means app
 
     item-kept : (j : Job) (d : Kind) (a : ℕ) (closed : Bool) → eqb (s .place) (s .end) ≡ closed → shutOf j ≡ 1 → a ≤ s .place → Closing s N F w ws t j k
-      → On ws (w .frame .end)
-          (cond closed (goOn reading page ts (again reading page ts a (w .frame .end)) (w .frame .structs) (w .frame .base) (label d 0 (w .frame .from) (s .end + 1)) (w .held then t) (w .frame .end))
-            (cond (commaAt ts (s .place) (s .end)) (again reading page ts a (w .frame .end) (items (w .frame .structs) (w .frame .base) (w .frame .from) (w .held then t) (s .place + 1) (s .end) (w .frame .end)))
-              (refused (refusal.MarkExpected (s .place))))) ≡ all
-      → Applied
-          (cond closed (finishedOf c (filled j) d 0 (s .end + 1))
-            (cond (commaAt ts (s .place) (s .end)) (nextItemOf c (filled j) (s .place) (s .end)) (Refuse (refusal.MarkExpected (s .place))))) (flat ws) F′ N N′ r
-      → Keeps F s N′ F′ r
+        → On ws (w .frame .end)
+        (cond closed (goOn reading page ts (again reading page ts a (w .frame .end)) (w .frame .structs) (w .frame .base) (label d 0 (w .frame .from) (s .end + 1)) (w .held then t) (w .frame .end))
+        (cond (commaAt ts (s .place) (s .end)) (again reading page ts a (w .frame .end) (items (w .frame .structs) (w .frame .base) (w .frame .from) (w .held then t) (s .place + 1) (s .end) (w .frame .end)))
+        (refused (refusal.MarkExpected (s .place))))) ≡ all
+        → Applied
+        (cond closed (finishedOf c (filled j) d 0 (s .end + 1))
+        (cond (commaAt ts (s .place) (s .end)) (nextItemOf c (filled j) (s .place) (s .end)) (Refuse (refusal.MarkExpected (s .place))))) (flat ws) F′ N N′ r
+        → Keeps F s N′ F′ r
     item-kept j d a true is one early x means app =
         fold-kept j d 0 (s .end + 1) a x (omega (arith, x .inside)) (omega (arith, x .within)) early (omega (arith, x .inside)) means app
     item-kept j d a false is one early x means app =
@@ -364,18 +364,18 @@ module _ (reading : Part → List Field → Result ℕ Denial) (law : (w : Part)
         comma-kept j a (commaAt ts (s .place) (s .end)) one early (omega (arith, x .inside)) x means app
 
     cast-kept : (followed : Bool) → Closing s N F w ws t job.CastTo k
-      → On ws (w .frame .end)
-          (cond followed (refused (refusal.CastFollowed (s .place)))
-            (goOn reading page ts (again reading page ts (w .at) (w .frame .end)) (w .frame .structs) (w .frame .base) (label kind.Cast 0 (w .frame .from) (s .place)) (w .held then t) (w .frame .end))) ≡ all
-      → Applied (cond followed (Refuse (refusal.CastFollowed (s .place))) (finishedOf c (filled job.CastTo) kind.Cast 0 (s .place))) (flat ws) F′ N N′ r
-      → Keeps F s N′ F′ r
+        → On ws (w .frame .end)
+        (cond followed (refused (refusal.CastFollowed (s .place)))
+        (goOn reading page ts (again reading page ts (w .at) (w .frame .end)) (w .frame .structs) (w .frame .base) (label kind.Cast 0 (w .frame .from) (s .place)) (w .held then t) (w .frame .end))) ≡ all
+        → Applied (cond followed (Refuse (refusal.CastFollowed (s .place))) (finishedOf c (filled job.CastTo) kind.Cast 0 (s .place))) (flat ws) F′ N N′ r
+        → Keeps F s N′ F′ r
     cast-kept true x means a = refuse-kept s N N′ F (flat ws) F′ r ws (w .frame .end) (refusal.CastFollowed (s .place)) _ (x .holds) means a
     cast-kept false x means a = fold-kept job.CastTo kind.Cast 0 (s .place) (w .at) x (omega arith) (omega (arith, x .inside, x .within)) (omega (arith, x .low)) (x .low) means a
 
     close-kept : (j : Job) → Closing s N F w ws t j k
-      → On ws (w .frame .end) (afterBy reading page ts j w (s .end) t (s .place)) ≡ all
-      → Applied (closeBy ts c j (filled j) s) (flat ws) F′ N N′ r
-      → Keeps F s N′ F′ r
+        → On ws (w .frame .end) (afterBy reading page ts j w (s .end) t (s .place)) ≡ all
+        → Applied (closeBy ts c j (filled j) s) (flat ws) F′ N N′ r
+        → Keeps F s N′ F′ r
     close-kept (job.Operand d o) x means a =
         fold-kept (job.Operand d o) d o (s .place) (w .at) x (omega arith) (omega (arith, x .inside, x .within)) (omega (arith, x .low)) (x .low) means a
     close-kept job.First x means a = item-kept job.First kind.Paren (w .at) (eqb (s .place) (s .end)) refl refl (omega (arith, x .low)) x means a
@@ -386,10 +386,10 @@ module _ (reading : Part → List Field → Result ℕ Denial) (law : (w : Part)
 
   -- the finished child is linked to its sibling
   attach-holds : (ws : List Wait) (w : Wait) (t : Tree) (N : List Node) (root : ℕ)
-    → N ≡ S ++ (spilled (length S) (w ∷ ws) ++ lay (up (w ∷ ws)) None t)
-    → w .frame .links ≡ linksAt (up ws) (w .held)
-    → rootAt (up (w ∷ ws)) t ≡ root
-    → (linkTo N (w .frame .links .last) root ≡ S ++ (spilled (length S) ws ++ lays (up ws) None (w .held then t))) × (attached (w .frame .links) root ≡ linksAt (up ws) (w .held then t))
+      → N ≡ S ++ (spilled (length S) (w ∷ ws) ++ lay (up (w ∷ ws)) None t)
+      → w .frame .links ≡ linksAt (up ws) (w .held)
+      → rootAt (up (w ∷ ws)) t ≡ root
+      → (linkTo N (w .frame .links .last) root ≡ S ++ (spilled (length S) ws ++ lays (up ws) None (w .held then t))) × (attached (w .frame .links) root ≡ linksAt (up ws) (w .held then t))
   attach-holds ws w t N root holds linked rooted =
       let P = spilled (length S) ws in
       let H = lays (up ws) None (w .held) in
@@ -399,10 +399,11 @@ module _ (reading : Part → List Field → Result ℕ Denial) (law : (w : Part)
       let long : length (S ++ P) ≡ up ws = length-append S P in
       let shape : N ≡ (S ++ P) ++ (H ++ lay j None t) = holds ∙ ap (λ (i : ℕ). S ++ ((P ++ H) ++ lay i None t)) start ∙ simp append-assoc in
       let same : linkTo N (w .frame .links .last) root ≡ linkTo ((S ++ P) ++ (H ++ lay j None t)) (lastAt (up ws) (w .held)) root =
-            ap (λ (k : Links). linkTo N (k .last) root) linked ∙ ap (λ (M : List Node). linkTo M (lastAt (up ws) (w .held)) root) shape in
-      (same ∙ relink (w .held) (S ++ P) (lay j None t) (up ws) root long ∙ append-assoc S P (lays (up ws) (Some root) (w .held) ++ lay j None t)
-        ∙ ap (λ (i : ℕ). S ++ (P ++ (lays (up ws) (Some i) (w .held) ++ lay j None t))) at-root
-      , ap (λ (k : Links). attached k root) linked ∙ ap (λ (i : ℕ). attached (linksAt (up ws) (w .held)) i) at-root)
+      ap (λ (k : Links). linkTo N (k .last) root) linked ∙ ap (λ (M : List Node). linkTo M (lastAt (up ws) (w .held)) root) shape in (
+        same ∙ relink (w .held) (S ++ P) (lay j None t) (up ws) root long ∙ append-assoc S P (lays (up ws) (Some root) (w .held) ++ lay j None t)
+            ∙ ap (λ (i : ℕ). S ++ (P ++ (lays (up ws) (Some i) (w .held) ++ lay j None t))) at-root,
+        ap (λ (k : Links). attached k root) linked ∙ ap (λ (i : ℕ). attached (linksAt (up ws) (w .held)) i) at-root,
+      )
 
   linked-length : (N : List Node) (o : Option ℕ) (root : ℕ) → length (linkTo N o root) ≡ length N
   linked-length N None root = refl
@@ -422,9 +423,9 @@ module _ (reading : Part → List Field → Result ℕ Denial) (law : (w : Part)
       means : On waits (s .end) (took t (s .place)) ≡ all
 
     ended-kept : Ending → (N₁ N′ : List Node) (F₀ F′ : List Frame) (r : Turn) (c : ℕ) (f : Frame) (K : Links)
-      → F ≡ F₀ ++ f ∷ [] → N₁ ≡ linkTo N (f .links .last) root → K ≡ attached (f .links) root → c ≡ length N₁
-      → Applied (closeOf ts c (relinkedOf f K) s) F₀ F′ N₁ N′ r
-      → Keeps F s N′ F′ r
+        → F ≡ F₀ ++ f ∷ [] → N₁ ≡ linkTo N (f .links .last) root → K ≡ attached (f .links) root → c ≡ length N₁
+        → Applied (closeOf ts c (relinkedOf f K) s) F₀ F′ N₁ N′ r
+        → Keeps F s N′ F′ r
     ended-kept x N₁ N′ F₀ F′ r c f K pops relinks keys counts a = go (x .waits) (x .frames) (x .nodes) (x .links) (x .stack) (x .rooted) (x .means)
       where
         go : (ws : List Wait) → F ≡ flat ws → N ≡ S ++ (spilled (length S) ws ++ lay (up ws) None t) → Linked (length S) ws → Levels ws (s .place) (s .end) → rootAt (up ws) t ≡ root → On ws (s .end) (took t (s .place)) ≡ all → Keeps F s N′ F′ r
@@ -459,7 +460,6 @@ module _ (reading : Part → List Field → Result ℕ Denial) (law : (w : Part)
 
   -- only an operand that stops and a finished type have ended
 
-
   not-head : (c : ℕ) (s : Spot) (h : Head) (root : ℕ) → beginOf c s h ≡ Ended root → ⊥
   not-head c s (Leaf k q) root z = let y : _≡_ {A = ℕ} 0 1 = cc in omega arith
   not-head c s (Prefix k o q b) root z = let y : _≡_ {A = ℕ} 0 1 = cc in omega arith
@@ -481,7 +481,7 @@ module _ (reading : Part → List Field → Result ℕ Denial) (law : (w : Part)
   decided = decideOf reading page ts
 
   ending-by : (c p e b : ℕ) (f : Bool) (l : Left) (root : ℕ) → decided c (spot p e b f l) ≡ Ended root → (N : List Node) (F : List Frame)
-    → (x : Stands N F (spot p e b f l)) → Ending (spot p e b f l) (x .tree) root N F
+      → (x : Stands N F (spot p e b f l)) → Ending (spot p e b f l) (x .tree) root N F
   ending-by c p e b f Nothing root is N F x = absurd (not-head c (spot p e b f Nothing) (headAt reading page ts f p e) root is)
   ending-by c p e b f TypeWanted root is N F x = absurd (not-type c (spot p e b f TypeWanted) (reading part.TypeName (levelOf page ts p e)) root is)
   ending-by c p e b f (Operand from k at) root is N F x =
@@ -511,8 +511,8 @@ module _ (reading : Part → List Field → Result ℕ Denial) (law : (w : Part)
       }
 
   step-by : (c p e b : ℕ) (f : Bool) (l : Left) → ((root : ℕ) → decided c (spot p e b f l) ≡ Ended root → ⊥)
-    → (N N′ : List Node) (F F′ : List Frame) (r : Turn) → c ≡ length N
-    → Stands N F (spot p e b f l) → Applied (decided c (spot p e b f l)) F F′ N N′ r → Keeps F (spot p e b f l) N′ F′ r
+      → (N N′ : List Node) (F F′ : List Frame) (r : Turn) → c ≡ length N
+      → Stands N F (spot p e b f l) → Applied (decided c (spot p e b f l)) F F′ N N′ r → Keeps F (spot p e b f l) N′ F′ r
   step-by c p e b f Nothing on N N′ F F′ r n x a =
       head-kept p e b f N N′ F F′ r c n (headAt reading page ts f p e) refl (good-head reading law page ts p e f) x a
   step-by c p e b f TypeWanted on N N′ F F′ r n x a =
@@ -525,13 +525,13 @@ module _ (reading : Part → List Field → Result ℕ Denial) (law : (w : Part)
   -- the three ways of a turn
 
   pub turn-step : (c : ℕ) (s : Spot) → ((root : ℕ) → decided c s ≡ Ended root → ⊥) → (N N′ : List Node) (F F′ : List Frame) (r : Turn) → c ≡ length N
-    → Stands N F s → Applied (decided c s) F F′ N N′ r → Keeps F s N′ F′ r
+      → Stands N F s → Applied (decided c s) F F′ N N′ r → Keeps F s N′ F′ r
   turn-step c s on N N′ F F′ r n x a = step-by c (s .place) (s .end) (s .base) (s .structs) (s .left) on N N′ F F′ r n x a
 
   pub turn-close : (c d : ℕ) (s : Spot) (root : ℕ) → decided c s ≡ Ended root → (N N₁ N′ : List Node) (F F₀ F′ : List Frame) (r : Turn) (f : Frame) (K : Links)
-    → Stands N F s → F ≡ F₀ ++ f ∷ []
-    → N₁ ≡ linkTo N (f .links .last) root → K ≡ attached (f .links) root → d ≡ length N₁
-    → Applied (closeOf ts d (relinkedOf f K) s) F₀ F′ N₁ N′ r → Keeps F s N′ F′ r
+      → Stands N F s → F ≡ F₀ ++ f ∷ []
+      → N₁ ≡ linkTo N (f .links .last) root → K ≡ attached (f .links) root → d ≡ length N₁
+      → Applied (closeOf ts d (relinkedOf f K) s) F₀ F′ N₁ N′ r → Keeps F s N′ F′ r
   turn-close c d s root is N N₁ N′ F F₀ F′ r f K x pops n₁ k₁ n a =
       ended-kept s (x .tree) root N F (ending-by c (s .place) (s .end) (s .base) (s .structs) (s .left) root is N F x) N₁ N′ F₀ F′ r d f K pops n₁ k₁ n a
 
@@ -606,8 +606,8 @@ module _ (reading : Part → List Field → Result ℕ Denial) (law : (w : Part)
     room-item d f s g h =
         cond-both (eqb (s .place) (s .end)) _ _ (λ (m : Move). RoomFor m fs fr ns nr) (λ _. h)
         (λ _. cond-both (commaAt ts (s .place) (s .end)) (nextItemOf c f (s .place) (s .end)) _ (λ (m : Move). RoomFor m fs fr ns nr)
-          (λ _. cond-both (eqb (s .place + 1) (s .end)) _ _ (λ (m : Move). RoomFor m fs fr ns nr) (λ _. h) (λ _. g))
-          (λ _. tt))
+        (λ _. cond-both (eqb (s .place + 1) (s .end)) _ _ (λ (m : Move). RoomFor m fs fr ns nr) (λ _. h) (λ _. g))
+        (λ _. tt))
 
     room-any : (f : Frame) (s : Spot) (j : Job) → fs < fr → ns < nr → RoomFor (closeBy ts c j f s) fs fr ns nr
     room-any f s (job.Operand k o) g h = h
@@ -632,7 +632,7 @@ module _ (reading : Part → List Field → Result ℕ Denial) (law : (w : Part)
 module _ (reading : Part → List Field → Result ℕ Denial) (page : List ℕ) (ts : List Token) where
   -- before the first turn nothing is written or begun
   pub sound-start : (f : Bool) (p e p′ e′ : ℕ) (N : List Node) (F : List Frame) → p ≤ e → p′ ≡ p → e′ ≡ e → F ≡ []
-    → Sound reading page ts e (R reading page ts (expr f 0 p e)) N N F (spot p′ e′ 0 f Nothing)
+      → Sound reading page ts e (R reading page ts (expr f 0 p e)) N N F (spot p′ e′ 0 f Nothing)
   sound-start f p e p′ e′ N F h place end empty =
       let fs : length F ≡ 0 = ap length empty in
       record {

@@ -54,8 +54,14 @@ fn extended(links: Links, root: usize) -> Links
     ensures { λ r. ⌜ r ≡ attached links root ⌝ }
 {
     match links.first {
-        Some(f) => Links { first: Some(f), last: Some(root) },
-        None => Links { first: Some(root), last: Some(root) },
+        Some(f) => Links {
+            first: Some(f),
+            last: Some(root),
+        },
+        None => Links {
+            first: Some(root),
+            last: Some(root),
+        },
     }
 }
 
@@ -71,7 +77,14 @@ fn link_next(nodes: &mut Counted<Node>, last: Option<usize>, root: usize)
     match last {
         Some(l) => {
             let node = nodes.get(l);
-            nodes.put(l, Node { label: node.label, first: node.first, next: Some(root) });
+            nodes.put(
+                l,
+                Node {
+                    label: node.label,
+                    first: node.first,
+                    next: Some(root),
+                },
+            );
         }
         None => {}
     }
@@ -92,7 +105,13 @@ fn attach(links: Links, root: usize, nodes: &mut Counted<Node>) -> Links
 }
 
 // One turn: what is decided is done, and a node that has ended is handed to the frame that waited for it.
-fn turn_once<H: Host>(host: &H, all: Window, at: Spot, frames: &mut Counted<Frame>, nodes: &mut Counted<Node>) -> Turn
+fn turn_once<H: Host>(
+    host: &H,
+    all: Window,
+    at: Spot,
+    frames: &mut Counted<Frame>,
+    nodes: &mut Counted<Node>,
+) -> Turn
     requires ready { ⌜ Ready (reading (now host)) (now (all .page)) (now (all .tokens)) (all .end) (items (now nodes)) (items (now frames)) at (room (now frames)) (room (now nodes)) ⌝ }
     requires frames { ⌜ used (now frames) ≤ room (now frames) ⌝ }
     requires nodes { ⌜ used (now nodes) ≤ room (now nodes) ⌝ }
@@ -109,7 +128,11 @@ fn turn_once<H: Host>(host: &H, all: Window, at: Spot, frames: &mut Counted<Fram
             None => Turn::Done,
             Some(f) => {
                 let links = attach(f.links, root, nodes);
-                apply(close(all, relinked(f, links), at, nodes.count()), frames, nodes)
+                apply(
+                    close(all, relinked(f, links), at, nodes.count()),
+                    frames,
+                    nodes,
+                )
             }
         },
         step => apply(step, frames, nodes),
@@ -118,7 +141,13 @@ fn turn_once<H: Host>(host: &H, all: Window, at: Spot, frames: &mut Counted<Fram
 
 // Reads one expression from the window's place on, and writes its nodes behind those that stand. There is a frame and
 // a node for each token, so that none is ever missing. Answers where the reading stopped.
-pub fn read_expr<H: Host>(host: &H, level: Window, structs: bool, stack: &mut [Frame], nodes: &mut Counted<Node>) -> Result<usize, Refusal>
+pub fn read_expr<H: Host>(
+    host: &H,
+    level: Window,
+    structs: bool,
+    stack: &mut [Frame],
+    nodes: &mut Counted<Node>,
+) -> Result<usize, Refusal>
     requires inside { ⌜ level .place ≤ level .end ⌝ }
     requires stack { ⌜ level .end ≤ length (now stack) ⌝ }
     requires nodes { ⌜ used (now nodes) + level .end ≤ room (now nodes) ⌝ }
@@ -130,7 +159,13 @@ pub fn read_expr<H: Host>(host: &H, level: Window, structs: bool, stack: &mut [F
 {
     let mut depth = 0;
     let mut frames = Counted::new(stack, &mut depth);
-    let mut at = Spot { place: level.place(), end: level.end(), base: 0, structs, left: Left::Nothing };
+    let mut at = Spot {
+        place: level.place(),
+        end: level.end(),
+        base: 0,
+        structs,
+        left: Left::Nothing,
+    };
     loop {
         match turn_once(host, level, at, &mut frames, nodes) {
             Turn::Go(next) => at = next,

@@ -49,13 +49,30 @@ fn rank_by(kind: Kind, op: u32) -> u8
 }
 
 // The one maker of nodes: the node with the number `count` is written, and stands as an operand.
-fn made(label: Label, first: Option<usize>, base: u8, end: usize, structs: bool, count: usize) -> Move
+fn made(
+    label: Label,
+    first: Option<usize>,
+    base: u8,
+    end: usize,
+    structs: bool,
+    count: usize,
+) -> Move
     ensures { λ r. ⌜ r ≡ madeOf count label first base end structs ⌝ }
 {
     let rank = rank_by(label.kind, label.op);
     Move::Emit(
-        Node { label, first, next: None },
-        Spot { place: label.to, end, base, structs, left: Left::Operand(label.from, rank, count) },
+        Node {
+            label,
+            first,
+            next: None,
+        },
+        Spot {
+            place: label.to,
+            end,
+            base,
+            structs,
+            left: Left::Operand(label.from, rank, count),
+        },
     )
 }
 
@@ -63,23 +80,76 @@ fn made(label: Label, first: Option<usize>, base: u8, end: usize, structs: bool,
 fn finished(f: Frame, kind: Kind, op: u32, to: usize, count: usize) -> Move
     ensures { λ r. ⌜ r ≡ finishedOf count f kind op to ⌝ }
 {
-    made(Label { kind, op, from: f.from, to }, f.links.first, f.base, f.end, f.structs, count)
+    made(
+        Label {
+            kind,
+            op,
+            from: f.from,
+            to,
+        },
+        f.links.first,
+        f.base,
+        f.end,
+        f.structs,
+        count,
+    )
 }
 
 // An operand begins.
 fn begin(at: Spot, count: usize, head: Head) -> Move
     ensures { λ r. ⌜ r ≡ beginOf count at head ⌝ }
 {
-    let links = Links { first: None, last: None };
+    let links = Links {
+        first: None,
+        last: None,
+    };
     match head {
-        Head::Leaf(kind, to) => made(Label { kind, op: 0, from: at.place, to }, None, at.base, at.end, at.structs, count),
+        Head::Leaf(kind, to) => made(
+            Label {
+                kind,
+                op: 0,
+                from: at.place,
+                to,
+            },
+            None,
+            at.base,
+            at.end,
+            at.structs,
+            count,
+        ),
         Head::Prefix(kind, op, place, base) => Move::Push(
-            Frame { job: Job::Operand(kind, op), from: at.place, base: at.base, end: at.end, structs: at.structs, links },
-            Spot { place, end: at.end, base, structs: at.structs, left: Left::Nothing },
+            Frame {
+                job: Job::Operand(kind, op),
+                from: at.place,
+                base: at.base,
+                end: at.end,
+                structs: at.structs,
+                links,
+            },
+            Spot {
+                place,
+                end: at.end,
+                base,
+                structs: at.structs,
+                left: Left::Nothing,
+            },
         ),
         Head::Group(place, close) => Move::Push(
-            Frame { job: Job::First, from: at.place, base: at.base, end: at.end, structs: at.structs, links },
-            Spot { place, end: close, base: 0, structs: true, left: Left::Nothing },
+            Frame {
+                job: Job::First,
+                from: at.place,
+                base: at.base,
+                end: at.end,
+                structs: at.structs,
+                links,
+            },
+            Spot {
+                place,
+                end: close,
+                base: 0,
+                structs: true,
+                left: Left::Nothing,
+            },
         ),
         Head::NoHead(r) => Move::Refuse(r),
     }
@@ -89,18 +159,59 @@ fn begin(at: Spot, count: usize, head: Head) -> Move
 fn go_on(at: Spot, from: usize, root: usize, count: usize, tail: Tail) -> Move
     ensures { λ r. ⌜ r ≡ goOf count at from root tail ⌝ }
 {
-    let links = Links { first: Some(root), last: Some(root) };
+    let links = Links {
+        first: Some(root),
+        last: Some(root),
+    };
     match tail {
         Tail::Takes(op, place) => Move::Push(
-            Frame { job: Job::Right(op), from, base: at.base, end: at.end, structs: at.structs, links },
-            Spot { place, end: at.end, base: above(rank(op)), structs: at.structs, left: Left::Nothing },
+            Frame {
+                job: Job::Right(op),
+                from,
+                base: at.base,
+                end: at.end,
+                structs: at.structs,
+                links,
+            },
+            Spot {
+                place,
+                end: at.end,
+                base: above(rank(op)),
+                structs: at.structs,
+                left: Left::Nothing,
+            },
         ),
         Tail::Endless(to) => {
-            made(Label { kind: Kind::Range, op: 0, from, to }, Some(root), at.base, at.end, at.structs, count)
+            made(
+                Label {
+                    kind: Kind::Range,
+                    op: 0,
+                    from,
+                    to,
+                },
+                Some(root),
+                at.base,
+                at.end,
+                at.structs,
+                count,
+            )
         }
         Tail::Casts(place) => Move::Push(
-            Frame { job: Job::CastTo, from, base: at.base, end: at.end, structs: at.structs, links },
-            Spot { place, end: at.end, base: 0, structs: at.structs, left: Left::TypeWanted },
+            Frame {
+                job: Job::CastTo,
+                from,
+                base: at.base,
+                end: at.end,
+                structs: at.structs,
+                links,
+            },
+            Spot {
+                place,
+                end: at.end,
+                base: 0,
+                structs: at.structs,
+                left: Left::TypeWanted,
+            },
         ),
         Tail::Stop => Move::Ended(root),
         Tail::NoTail(r) => Move::Refuse(r),
@@ -117,8 +228,23 @@ fn read_type<H: Host>(host: &H, level: Window, at: Spot, count: usize) -> Move
         Ok(n) => {
             let to = at.place + n;
             Move::Emit(
-                Node { label: Label { kind: Kind::TypeName, op: 0, from: at.place, to }, first: None, next: None },
-                Spot { place: to, end: at.end, base: at.base, structs: at.structs, left: Left::Whole(count) },
+                Node {
+                    label: Label {
+                        kind: Kind::TypeName,
+                        op: 0,
+                        from: at.place,
+                        to,
+                    },
+                    first: None,
+                    next: None,
+                },
+                Spot {
+                    place: to,
+                    end: at.end,
+                    base: at.base,
+                    structs: at.structs,
+                    left: Left::Whole(count),
+                },
             )
         }
         Err(denial) => Move::Refuse(Refusal::HostRefused(at.place, Part::TypeName, denial)),
@@ -134,7 +260,13 @@ pub fn decide<H: Host>(host: &H, all: Window, at: Spot, count: usize) -> Move
     match at.left {
         Left::Nothing => begin(at, count, see_head(host, level, at.structs)),
         Left::TypeWanted => read_type(host, level, at, count),
-        Left::Operand(from, rank, root) => go_on(at, from, root, count, see_tail(level, at.structs, at.base, rank)),
+        Left::Operand(from, rank, root) => go_on(
+            at,
+            from,
+            root,
+            count,
+            see_tail(level, at.structs, at.base, rank),
+        ),
         Left::Whole(root) => Move::Ended(root),
     }
 }
@@ -149,8 +281,21 @@ fn next_item(f: Frame, place: usize, close: usize, count: usize) -> Move
         return finished(f, Kind::Tuple, 0, close + 1, count);
     }
     Move::Push(
-        Frame { job: Job::Item, from: f.from, base: f.base, end: f.end, structs: f.structs, links: f.links },
-        Spot { place: place + 1, end: close, base: 0, structs: true, left: Left::Nothing },
+        Frame {
+            job: Job::Item,
+            from: f.from,
+            base: f.base,
+            end: f.end,
+            structs: f.structs,
+            links: f.links,
+        },
+        Spot {
+            place: place + 1,
+            end: close,
+            base: 0,
+            structs: true,
+            left: Left::Nothing,
+        },
     )
 }
 
@@ -197,5 +342,12 @@ pub fn close(all: Window, f: Frame, at: Spot, count: usize) -> Move
 pub fn relinked(f: Frame, links: Links) -> Frame
     ensures { λ r. ⌜ r ≡ relinkedOf f links ⌝ }
 {
-    Frame { job: f.job, from: f.from, base: f.base, end: f.end, structs: f.structs, links }
+    Frame {
+        job: f.job,
+        from: f.from,
+        base: f.base,
+        end: f.end,
+        structs: f.structs,
+        links,
+    }
 }

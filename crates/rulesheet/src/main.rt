@@ -55,9 +55,22 @@ fn show_refusal(rt: &LibcRuntime, refusal: Refusal) -> io::Result<()> {
 fn main(rt: LibcRuntime) -> io::Result<()> {
     let mut page = Vec::new(rt.alloc());
     let _ = rt.stdin().take(MOST_BYTES).read_to_end(&mut page)?;
-    let mut tokens = [Token { look: Look::Name(Word::Plain), start: 0, len: 0 }; 4096];
-    let label = Label { kind: Kind::Path, op: 0, from: 0, to: 0 };
-    let mut nodes = [Node { label, first: None, next: None }; 4096];
+    let mut tokens = [Token {
+        look: Look::Name(Word::Plain),
+        start: 0,
+        len: 0,
+    }; 4096];
+    let label = Label {
+        kind: Kind::Path,
+        op: 0,
+        from: 0,
+        to: 0,
+    };
+    let mut nodes = [Node {
+        label,
+        first: None,
+        next: None,
+    }; 4096];
     let mut rules = [Rule { root: 0, used: 0 }; 256];
     let mut sheet = Sheet::new(&mut nodes, &mut rules);
     match sheet.enter(&StatementHost, page.as_slice(), &mut tokens, true) {

@@ -40,9 +40,9 @@ front-tokens ts rest space n is long =
     ap (λ (i : ℕ). take i space) k ∙ ap (take (length ts)) is ∙ take-append-le (length ts) ts rest all ∙ take-all (length ts) ts all
 
 module _ (s : State) (reading : Reading) (page : List ℕ) (k : ℕ) (structs : Bool)
-  (clean : faultOf k page ≡ None)
-  (room : length (tokensOf k page) ≤ roomOf s .nodes - s .totals .nodes)
-  (free : s .totals .rules < roomOf s .rules) where
+    (clean : faultOf k page ≡ None)
+    (room : length (tokensOf k page) ≤ roomOf s .nodes - s .totals .nodes)
+    (free : s .totals .rules < roomOf s .rules) where
   abbrev read : Result Entry Refusal
   read = whole (length (tokensOf k page)) (readExpr reading page (tokensOf k page) structs)
 
@@ -57,7 +57,7 @@ module _ (s : State) (reading : Reading) (page : List ℕ) (k : ℕ) (structs : 
       ∙ ap (λ (b : Bool). cond b read (Err SheetFull)) (lt-ltb (s .totals .rules) (roomOf s .rules) free)
 
   refused : (o : Result Entry Refusal) (t : State) (f : Refusal) (r : Result ℕ Refusal) (n : ℕ)
-    → Reads o (s .nodes) (s .totals .nodes) (t .nodes) n (Err f) → t .rules ≡ s .rules → t .totals ≡ s .totals → r ≡ Err f → Enters o s t r
+      → Reads o (s .nodes) (s .totals .nodes) (t .nodes) n (Err f) → t .rules ≡ s .rules → t .totals ≡ s .totals → r ≡ Err f → Enters o s t r
   refused (Ok e) t f r n (a, b, c, d) rules totals is = let z : _≡_ {A = ℕ} 0 1 = cc in elim (let y : ⊥ = omega arith in y) [ ]
   refused (Err g) t f r n (a, b) rules totals is =
       let x : r ≡ Err g = cc in
@@ -66,26 +66,26 @@ module _ (s : State) (reading : Reading) (page : List ℕ) (k : ℕ) (structs : 
       (x, totals, y, z)
 
   pub in-refused : (t : State) (r : Result ℕ Refusal) (f : Refusal) (n : ℕ) → Reads read (s .nodes) (s .totals .nodes) (t .nodes) n (Err f)
-    → t .rules ≡ s .rules → t .totals ≡ s .totals → r ≡ Err f → Enters entry s t r
+      → t .rules ≡ s .rules → t .totals ≡ s .totals → r ≡ Err f → Enters entry s t r
   in-refused t r f n reads rules totals is = subst (λ (o : Result Entry Refusal). Enters o s t r) (sym opened) (refused read t f r n reads rules totals is)
 
   accepted : (o : Result Entry Refusal) (t : State) (x : Rule) (n : ℕ)
-    → Reads o (s .nodes) (s .totals .nodes) (t .nodes) (t .totals .nodes) (Ok x)
-    → rulesOf t ≡ rulesOf s ++ x ∷ [] → t .totals .rules ≡ s .totals .rules + 1 → n ≡ s .totals .rules → Enters o s t (Ok n)
+      → Reads o (s .nodes) (s .totals .nodes) (t .nodes) (t .totals .nodes) (Ok x)
+      → rulesOf t ≡ rulesOf s ++ x ∷ [] → t .totals .rules ≡ s .totals .rules + 1 → n ≡ s .totals .rules → Enters o s t (Ok n)
   accepted (Err f) t x n (a, b) rules count number = let z : _≡_ {A = ℕ} 0 1 = cc in elim (let y : ⊥ = omega arith in y) [ ]
   accepted (Ok e) t x n (a, b, c, d) rules count number =
       let same : x ≡ ruleAt (s .totals .nodes) e = cc in
       (ap Ok number, b, count, c, rules ∙ ap (λ (y : Rule). rulesOf s ++ y ∷ []) same)
 
   pub in-accepted : (t : State) (n : ℕ) (x : Rule) → Reads read (s .nodes) (s .totals .nodes) (t .nodes) (t .totals .nodes) (Ok x)
-    → rulesOf t ≡ rulesOf s ++ x ∷ [] → t .totals .rules ≡ s .totals .rules + 1 → n ≡ s .totals .rules → Enters entry s t (Ok n)
+      → rulesOf t ≡ rulesOf s ++ x ∷ [] → t .totals .rules ≡ s .totals .rules + 1 → n ≡ s .totals .rules → Enters entry s t (Ok n)
   in-accepted t n x reads rules count number = subst (λ (o : Result Entry Refusal). Enters o s t (Ok n)) (sym opened) (accepted read t x n reads rules count number)
 
 -- what the reading of a level does is what the reading of the page's tokens does
 pub level-reads : (reading : Reading) (page page′ : List ℕ) (ts ts′ : List Token) (structs : Bool) (p e : ℕ) (N N′ : List Node) (n₀ n n′ : ℕ) (r : Result Rule Refusal)
-  → page′ ≡ page → ts′ ≡ ts → p ≡ 0 → e ≡ length ts → n₀ ≡ n
-  → Reads (whole e (readTask reading page′ ts′ (expr structs 0 p e))) N n₀ N′ n′ r
-  → Reads (whole (length ts) (readExpr reading page ts structs)) N n N′ n′ r
+    → page′ ≡ page → ts′ ≡ ts → p ≡ 0 → e ≡ length ts → n₀ ≡ n
+    → Reads (whole e (readTask reading page′ ts′ (expr structs 0 p e))) N n₀ N′ n′ r
+    → Reads (whole (length ts) (readExpr reading page ts structs)) N n N′ n′ r
 level-reads reading page page′ ts ts′ structs p e N N′ n₀ n n′ r pages tokens start stop count reads =
     subst (λ (x : ℕ). Reads (whole (length ts) (readExpr reading page ts structs)) N x N′ n′ r) count
     (subst (λ (x : List ℕ). Reads (whole (length ts) (readTask reading x ts (expr structs 0 0 (length ts)))) N n₀ N′ n′ r) pages
@@ -102,10 +102,10 @@ pub record Opened (s : State) (page : List ℕ) (space after : List Token) (n : 
   pub front : take (n - 0) after ≡ tokensOf (tokenRoom space) page
 
 pub opened-by : (s : State) (page : List ℕ) (space after : List Token) (n f g : ℕ)
-  → Ok n ≡ pageAnswer (tokenRoom space) page → after ≡ spaceAfter page space
-  → f ≡ min (length (s .nodes)) 4096 - s .totals .nodes → n ≤ f
-  → g ≡ min (length (s .rules)) 256 - s .totals .rules → (g ≡ 0 → ⊥)
-  → Opened s page space after n
+    → Ok n ≡ pageAnswer (tokenRoom space) page → after ≡ spaceAfter page space
+    → f ≡ min (length (s .nodes)) 4096 - s .totals .nodes → n ≤ f
+    → g ≡ min (length (s .rules)) 256 - s .totals .rules → (g ≡ 0 → ⊥)
+    → Opened s page space after n
 opened-by s page space after n f g value is f-is fits g-is some =
     let q = no-fault (faultOf (tokenRoom space) page) n (length (tokensOf (tokenRoom space) page)) value in
     record {

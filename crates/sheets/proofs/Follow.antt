@@ -60,8 +60,8 @@ entered-answer (Ok e) s t n r q (a, b, c, d, f) = a ∙ ap Ok q
 entered-answer (Err x) s t n r q (a, b, c, d) = a
 
 module _ (s t : State) (reading : Reading) (law : (p : Part) (l : List Field) → Lawful l (reading p l)) (page : List ℕ) (space : List Token) (structs : Bool) (r : Result ℕ Refusal)
-  (same : roomOf t ≡ roomOf s)
-  (done : Enters (entryOf (roomOf s) (s .totals .nodes) (s .totals .rules) reading page (tokenRoom space) structs) s t r) where
+    (same : roomOf t ≡ roomOf s)
+    (done : Enters (entryOf (roomOf s) (s .totals .nodes) (s .totals .rules) reading page (tokenRoom space) structs) s t r) where
   abbrev entryAt : ℕ → ℕ → Result Entry Refusal
   entryAt n k = entryOf (roomOf s) n k reading page (tokenRoom space) structs
 
@@ -74,11 +74,11 @@ module _ (s t : State) (reading : Reading) (law : (p : Part) (l : List Field) �
   enter-follows after is = record {
     room = same;
     next = λ m held.
-      entered-next s t m r same held (entryAt (sizes m) (length m))
-      (λ e q. taken-in (roomOf s) (sizes m) (length m) reading law page (tokenRoom space) structs e (omega (arith, tokens-fit (tokenRoom space) page)) q) (enters-at m held);
+        entered-next s t m r same held (entryAt (sizes m) (length m))
+        (λ e q. taken-in (roomOf s) (sizes m) (length m) reading law page (tokenRoom space) structs e (omega (arith, tokens-fit (tokenRoom space) page)) q) (enters-at m held);
     answer = λ m held.
-      ap (λ (x : Result ℕ Refusal). says-number x after) (entered-answer (entryAt (sizes m) (length m)) s t (length m) r (held .some) (enters-at m held))
-      ∙ ap (λ (x : List Token). says-number (numbered (length m) (entryAt (sizes m) (length m))) x) is;
+        ap (λ (x : Result ℕ Refusal). says-number x after) (entered-answer (entryAt (sizes m) (length m)) s t (length m) r (held .some) (enters-at m held))
+        ∙ ap (λ (x : List Token). says-number (numbered (length m) (entryAt (sizes m) (length m))) x) is;
   }
 
   -- it stands for some model still
@@ -90,15 +90,18 @@ module _ (s t : State) (reading : Reading) (law : (p : Part) (l : List Field) �
 pub empty-held : (s : State) → s .totals .nodes ≡ 0 → s .totals .rules ≡ 0 → ∥ ((m : Model) × Holds s m) ∥₁
 empty-held s a b =
     let none : nodesOf s ≡ [] = ap (λ (k : ℕ). take k (s .nodes)) a in
-    ∣ ([], record {
-      nodes = none;
-      rules = ap (λ (k : ℕ). take k (s .rules)) b;
-      many = a;
-      some = b;
-      within = omega arith;
-      below = omega arith;
-      short = subst Short (sym none) tt;
-    }) ∣₁
+    ∣ (
+      [],
+      record {
+        nodes = none;
+        rules = ap (λ (k : ℕ). take k (s .rules)) b;
+        many = a;
+        some = b;
+        within = omega arith;
+        below = omega arith;
+        short = subst Short (sym none) tt;
+      },
+    ) ∣₁
 
 -- no more nodes and rules are in use than a sheet takes
 pub nodes-fit : (s : State) → ∥ ((m : Model) × Holds s m) ∥₁ → s .totals .nodes ≤ roomOf s .nodes
@@ -119,7 +122,7 @@ heading-follows s out r e = record {
   room = refl;
   next = λ m held. held;
   answer = λ m held.
-    ap says-bytes (e ∙ ap (λ (k : ℕ). written (headingBytes k (s .totals .nodes)) out) (held .some) ∙ ap (λ (k : ℕ). written (headingBytes (length m) k) out) (held .many));
+      ap says-bytes (e ∙ ap (λ (k : ℕ). written (headingBytes k (s .totals .nodes)) out) (held .some) ∙ ap (λ (k : ℕ). written (headingBytes (length m) k) out) (held .many));
 }
 
 pub line-follows : (s : State) (i : ℕ) (out : List ℕ) (r : Result ℕ Refusal × List ℕ) → r ≡ lineOf (nodesOf s) i out → Follows s (call-line i out) (says-bytes r) s

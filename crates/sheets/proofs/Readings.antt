@@ -41,7 +41,7 @@ module _ (N N′ : List Node) (n n′ top : ℕ) (h : n ≤ length N) (h′ : n�
   refused-reads (refused x) f r is w re = let e : r ≡ Err x = cc in (e, front N N′ (w .more) n n′ h h′ (w .nodes))
 
   left-by : (t : Tree) (q : ℕ) (b : Bool) → eqb q top ≡ b → (q ≡ top → ⊥) → take n N′ ≡ take n N
-    → Reads (cond b (Ok (record { tree = t; used = q })) (Err (LeftOver q))) N n N′ n′ (Err (LeftOver q))
+      → Reads (cond b (Ok (record { tree = t; used = q })) (Err (LeftOver q))) N n N′ n′ (Err (LeftOver q))
   left-by t q true is ne same = absurd (ne (eqb-true q top is))
   left-by t q false is ne same = (refl, same)
 
@@ -77,9 +77,10 @@ module _ (N N′ : List Node) (n n′ top : ℕ) (h : n ≤ length N) (h′ : n�
       let long : length (take n N) ≡ n = omega (arith, length-take n N) in
       let b : n′ ≤ n + p = omega (arith, w .few, length-take n N, length-take n′ N′) in
       let test : eqb p top ≡ true = eq-eqb p top (e ∙ end) in
-      subst (λ (x : Result Entry Refusal). Reads x N n N′ n′ (Ok (record { root = n′ - 1; used = q }))) (sym (cond-true (eqb p top) (Ok (record { tree = t; used = p })) (Err (LeftOver p)) test))
-      (ap (λ (k : ℕ). Ok (record { root = k; used = q })) (root-is t (counts t p w)) ∙ ap (λ (k : ℕ). Ok (record { root = rootAt n t; used = k })) (sym e)
-      , counts t p w
-      , w .nodes ∙ ap (λ (k : ℕ). take n N ++ lay k None t) long
-      , b)
+      subst (λ (x : Result Entry Refusal). Reads x N n N′ n′ (Ok (record { root = n′ - 1; used = q }))) (sym (cond-true (eqb p top) (Ok (record { tree = t; used = p })) (Err (LeftOver p)) test)) (
+        ap (λ (k : ℕ). Ok (record { root = k; used = q })) (root-is t (counts t p w)) ∙ ap (λ (k : ℕ). Ok (record { root = rootAt n t; used = k })) (sym e),
+        counts t p w,
+        w .nodes ∙ ap (λ (k : ℕ). take n N ++ lay k None t) long,
+        b,
+      )
   all-reads (refused x) q is end w = let z : _≡_ {A = ℕ} 0 1 = cc in elim (let y : ⊥ = omega arith in y) [ ]

@@ -71,8 +71,8 @@ pub record Taken (w : Room) (n r : ℕ) (e : Entry) : Type 0 where
   pub short : (j : ℕ) → Short (lay j None (e .tree))
 
 pub taken-in : (w : Room) (n r : ℕ) (reading : Reading) → ((p : Part) (l : List Field) → Lawful l (reading p l))
-  → (page : List ℕ) (k : ℕ) (structs : Bool) (e : Entry) → length (tokensOf k page) ≤ 4096
-  → entryOf w n r reading page k structs ≡ Ok e → Taken w n r e
+    → (page : List ℕ) (k : ℕ) (structs : Bool) (e : Entry) → length (tokensOf k page) ≤ 4096
+    → entryOf w n r reading page k structs ≡ Ok e → Taken w n r e
 taken-in w n r reading law page k structs e few is =
     let f = fitting-ok w n r (length (tokensOf k page)) (whole (length (tokensOf k page)) (readExpr reading page (tokensOf k page) structs)) e (fault-ok (faultOf k page) _ e is) in
     let o = whole-took (length (tokensOf k page)) (readExpr reading page (tokensOf k page) structs) e (f .2) in

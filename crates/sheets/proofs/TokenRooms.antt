@@ -61,12 +61,12 @@ module _ (room : ℕ) (page : List ℕ) where
   Roomy o = length (o .tokens) ≤ room
 
   onward-fits : (at : ℕ) (go : ℕ → Held → Outcome) → ((i : ℕ) (h : Held) → length (h .tokens) ≤ room → Roomy (go i h))
-    → (h : Held) → length (h .tokens) ≤ room → (next : ℕ) (r : Result Held Refusal) → Fits room at r → Roomy (onward go h next r)
+      → (h : Held) → length (h .tokens) ≤ room → (next : ℕ) (r : Result Held Refusal) → Fits room at r → Roomy (onward go h next r)
   onward-fits at go fits h few next (Ok more) good = fits next more good
   onward-fits at go fits h few next (Err e) good = few
 
   entered-fits : (i : ℕ) (go : ℕ → Held → Outcome) → ((i : ℕ) (h : Held) → length (h .tokens) ≤ room → Roomy (go i h))
-    → (h : Held) → length (h .tokens) ≤ room → (r : Result Token Refusal) → Roomy (entered room i go h r)
+      → (h : Held) → length (h .tokens) ≤ room → (r : Result Token Refusal) → Roomy (entered room i go h r)
   entered-fits i go fits h few (Ok t) = onward-fits i go fits h few (t .start + t .len) (step room i h t) (step-fits room i h t (t .look))
   entered-fits i go fits h few (Err e) = few
 

@@ -28,6 +28,7 @@ use trees::Node;
 
 // A sheet uses at most this many of the nodes and rules of its spaces.
 const MOST_NODES: usize = 4096;
+
 const MOST_RULES: usize = 256;
 
 // How many of a space are free, of which at most `most` may be used.
@@ -39,13 +40,25 @@ fn free(len: usize, most: usize, used: usize) -> usize
 }
 
 impl<'a, 'b> Sheet<'a, 'b> {
-    fn enter_core<H: Host>(&mut self, host: &H, page: &[u8], tokens: &mut [Token], structs: bool) -> Result<usize, Refusal>
+    fn enter_core<H: Host>(
+        &mut self,
+        host: &H,
+        page: &[u8],
+        tokens: &mut [Token],
+        structs: bool,
+    ) -> Result<usize, Refusal>
         ensures room { λ _. ⌜ roomOf (stateOf (now (self .exit))) ≡ roomOf (stateOf (now (self .entry))) ⌝ }
         ensures enters { λ r. ⌜ Enters (entryOf (roomOf (stateOf (now (self .entry)))) (now (self .entry) .totals .nodes) (now (self .entry) .totals .rules) (reading (now (host .entry))) (now (page .entry)) (tokenRoom (now (tokens .entry))) structs) (stateOf (now (self .entry))) (stateOf (now (self .exit))) r ⌝ }
         ensures tokens { λ _. ⌜ now (tokens .exit) ≡ spaceAfter (now (page .entry)) (now (tokens .entry)) ⌝ }
     {
         let count = read_page(page, tokens)?;
-        let Sheet { nodes, rules, totals, frames, .. } = self;
+        let Sheet {
+            nodes,
+            rules,
+            totals,
+            frames,
+            ..
+        } = self;
         if count > free(nodes.len(), MOST_NODES, totals.nodes) {
             return Err(Refusal::SheetFull);
         }
@@ -84,14 +97,35 @@ impl<'a, 'b> Sheet<'a, 'b> {
         ensures empty { λ r. ⌜ Holds (stateOf r) [] ⌝ }
         ensures lender { λ r. ⌜ (name (r .nodes) ≡ name (nodes .entry)) × (name (r .rules) ≡ name (rules .entry)) ⌝ }
     {
-        let links = Links { first: None, last: None };
-        let frame = Frame { job: Job::First, from: 0, base: 0, end: 0, structs: false, links };
-        Sheet { nodes, rules, totals: Totals { nodes: 0, rules: 0 }, frames: [frame; 4096] }
+        let links = Links {
+            first: None,
+            last: None,
+        };
+        let frame = Frame {
+            job: Job::First,
+            from: 0,
+            base: 0,
+            end: 0,
+            structs: false,
+            links,
+        };
+        Sheet {
+            nodes,
+            rules,
+            totals: Totals { nodes: 0, rules: 0 },
+            frames: [frame; 4096],
+        }
     }
 
     // Enters a page as a rule of all its tokens, and answers the rule's number. `structs` tells whether a path before `{` is a
     // struct. The token space then holds the records of the fields that were taken in, and behind them what it held.
-    pub fn enter<H: Host>(&mut self, host: &H, page: &[u8], tokens: &mut [Token], structs: bool) -> Result<usize, Refusal>
+    pub fn enter<H: Host>(
+        &mut self,
+        host: &H,
+        page: &[u8],
+        tokens: &mut [Token],
+        structs: bool,
+    ) -> Result<usize, Refusal>
         ensures exact { λ r. ⌜ Enters (entryOf (roomOf (stateOf (now (self .entry)))) (now (self .entry) .totals .nodes) (now (self .entry) .totals .rules) (reading (now (host .entry))) (now (page .entry)) (tokenRoom (now (tokens .entry))) structs) (stateOf (now (self .entry))) (stateOf (now (self .exit))) r ⌝ }
         ensures tokens { λ _. ⌜ now (tokens .exit) ≡ spaceAfter (now (page .entry)) (now (tokens .entry)) ⌝ }
         ensures follows { λ r. ⌜ Follows (stateOf (now (self .entry))) (call-enter (reading (now (host .entry))) (now (page .entry)) (now (tokens .entry)) structs) (says-number r (now (tokens .exit))) (stateOf (now (self .exit))) ⌝ }

@@ -17,7 +17,14 @@ use trees::Node;
 
 // Reads an expression into a node space of which `count` are in use. The list is made over a plain slice, so that the caller
 // learns what its space holds after.
-fn read_nodes<H: Host>(host: &H, level: Window, structs: bool, frames: &mut [Frame], nodes: &mut [Node], count: &mut usize) -> Result<usize, Refusal>
+fn read_nodes<H: Host>(
+    host: &H,
+    level: Window,
+    structs: bool,
+    frames: &mut [Frame],
+    nodes: &mut [Node],
+    count: &mut usize,
+) -> Result<usize, Refusal>
     requires inside { ⌜ level .place ≤ level .end ⌝ }
     requires frames { ⌜ level .end ≤ length (now frames) ⌝ }
     requires nodes { ⌜ now count + level .end ≤ length (now nodes) ⌝ }
@@ -30,7 +37,14 @@ fn read_nodes<H: Host>(host: &H, level: Window, structs: bool, frames: &mut [Fra
 }
 
 // Reads a rule of all the tokens of a level behind the nodes in use, and counts its nodes among them.
-pub fn read_rule<H: Host>(host: &H, level: Window, structs: bool, frames: &mut [Frame], nodes: &mut [Node], count: &mut usize) -> Result<Rule, Refusal>
+pub fn read_rule<H: Host>(
+    host: &H,
+    level: Window,
+    structs: bool,
+    frames: &mut [Frame],
+    nodes: &mut [Node],
+    count: &mut usize,
+) -> Result<Rule, Refusal>
     requires inside { ⌜ level .place ≤ level .end ⌝ }
     requires frames { ⌜ level .end ≤ length (now frames) ⌝ }
     requires nodes { ⌜ now count + level .end ≤ length (now nodes) ⌝ }
@@ -40,5 +54,8 @@ pub fn read_rule<H: Host>(host: &H, level: Window, structs: bool, frames: &mut [
     if stop != level.end() {
         return Err(Refusal::LeftOver(stop));
     }
-    Ok(Rule { root: *count - 1, used: stop })
+    Ok(Rule {
+        root: *count - 1,
+        used: stop,
+    })
 }

@@ -17,7 +17,11 @@ impl Drop for Guard<'_> {
         if self.armed {
             *self.totals = self.old;
         }
-        let Guard { totals: _, old: _, armed: _ } = self;
+        let Guard {
+            totals: _,
+            old: _,
+            armed: _,
+        } = self;
     }
 }
 
@@ -27,7 +31,11 @@ impl<'a> Guard<'a> {
         ensures lent { λ r. ⌜ name (r .totals) ≡ name (totals .entry) ⌝ }
     {
         let old = *totals;
-        Guard { totals, old, armed: true }
+        Guard {
+            totals,
+            old,
+            armed: true,
+        }
     }
 
     // The totals stay as they are now.

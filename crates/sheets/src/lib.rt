@@ -2,9 +2,9 @@
 ghost use denote.Ref.{now as value};
 ghost use Rattle.sheets.specs.Model.{Model};
 ghost use Rattle.sheets.specs.States.{Holds, state};
-use reading::frames::Frame;
 use self::records::Rule;
 use self::records::Totals;
+use reading::frames::Frame;
 use trees::Node;
 
 mod calls;

@@ -9,13 +9,13 @@ use Rattle.trees.specs.declared.Node.{Node}
 mutual
   pub data Tree : Type 0 where
     branch : Label → Trees → Tree
+
   -- children, the last one outermost
   pub data Trees : Type 0 where
     none : Trees
     _then_ : Trees → Tree → Trees
 
 infixl 60 _then_
-
 abbrev pub labelOf : Tree → Label
 labelOf (branch l ts) = l
 

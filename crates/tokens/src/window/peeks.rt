@@ -6,10 +6,10 @@ ghost use lib.Dec.{eqb, ltb};
 ghost use lib.ListN.{length, take, drop, getD};
 ghost use Rattle.tokens.specs.Looks.{lookAt, markAt, joinedAt, twoAt, threeAt};
 ghost use Rattle.tokens.specs.Words.{wordAt, wordNumber};
-use super::Window;
 use super::super::Look;
 use super::super::Token;
 use super::super::Word;
+use super::Window;
 
 impl<'p, 't> Window<'p, 't> {
     // The whole of a page's tokens.
@@ -19,7 +19,12 @@ impl<'p, 't> Window<'p, 't> {
         ensures place { λ r. ⌜ r .place ≡ 0 ⌝ }
         ensures end { λ r. ⌜ r .end ≡ length (now (tokens .entry)) ⌝ }
     {
-        Window { page, tokens, place: 0, end: tokens.len() }
+        Window {
+            page,
+            tokens,
+            place: 0,
+            end: tokens.len(),
+        }
     }
 
     // The same tokens from another place to another end, which lies no further than this one's.
@@ -31,7 +36,12 @@ impl<'p, 't> Window<'p, 't> {
         ensures within { λ r. ⌜ (end ≤ self .entry .end → r .end ≡ end) ⌝ }
     {
         let end = if end < self.end { end } else { self.end };
-        Window { page: self.page, tokens: self.tokens, place, end }
+        Window {
+            page: self.page,
+            tokens: self.tokens,
+            place,
+            end,
+        }
     }
 
     pub fn place(self) -> usize
@@ -50,7 +60,11 @@ impl<'p, 't> Window<'p, 't> {
     pub fn look(self, i: usize) -> Option<Look>
         ensures { λ r. ⌜ r ≡ lookAt (now (self .entry .tokens)) (self .entry .end) i ⌝ }
     {
-        if i < self.end { Some(self.tokens[i].look) } else { None }
+        if i < self.end {
+            Some(self.tokens[i].look)
+        } else {
+            None
+        }
     }
 
     // Whether the token at a place is a name that spells a word.

@@ -13,5 +13,5 @@ returns g c =
     record {
       cases = (ap (λ k. take k (c .args .self .now .space .now)) (sym back) ∙ take-more (c .args .self .now .space .now) (n - 1) (c .index-self-n .result) lt, back);
       space = refl;
-      lender = (refl, refl)
+      lender = (refl, refl);
     }

@@ -15,9 +15,9 @@ returns g c =
       pushed = λ fits. record {
         list = take-more-set _ _ _ fits;
         behind = drop-set-lt _ _ _ _ behind ∙ sym (drop-drop 1 (c .args .self .now .count .now) (c .args .self .now .space .now));
-        count = refl
+        count = refl;
       };
       full = λ full. absurd (omega arith);
       room = length-set _ _ _;
-      lender = (refl, refl)
+      lender = (refl, refl);
     }

@@ -10,5 +10,5 @@ returns g c =
       rest = drop-set-lt _ _ _ _ (c .pre .within);
       count = refl;
       room = length-set _ _ _;
-      lender = (refl, refl)
+      lender = (refl, refl);
     }

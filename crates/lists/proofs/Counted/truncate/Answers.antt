@@ -14,17 +14,17 @@ returns-then-n-self g c =
       items = sym (take-take (c .args .n) (c .args .self .now .count .now) (c .args .self .now .space .now) h);
       space = refl;
       count = omega arith;
-      lender = (refl, refl)
+      lender = (refl, refl);
     }
 
 pub returns-else-n-self : need.returns-else-n-self
 returns-else-n-self g c =
     let k : c .args .self .now .count .now ≤ c .args .n = omega arith in
     let h : length (take (c .args .self .now .count .now) (c .args .self .now .space .now)) ≤ c .args .n =
-          omega (arith, length-take (c .args .self .now .count .now) (c .args .self .now .space .now)) in
+    omega (arith, length-take (c .args .self .now .count .now) (c .args .self .now .space .now)) in
     record {
       items = sym (take-all (c .args .n) (take (c .args .self .now .count .now) (c .args .self .now .space .now)) h);
       space = refl;
       count = omega arith;
-      lender = (refl, refl)
+      lender = (refl, refl);
     }

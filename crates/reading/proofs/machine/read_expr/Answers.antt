@@ -14,9 +14,15 @@ use Rattle.reading.proofs.machine.read_expr.Needs as need
 
 pub loop-next-holds : need.loop-next-holds
 loop-next-holds g c =
-    let empty : items (c .new-frames .result) ≡ [] = ap (λ (n : ℕ). take n (now (c .new-frames .result .space))) (c .new-frames .ensures .counts) in
-    (sound-start (g .H·Host .reading (c .args .host .now)) (now (c .args .level .page)) (now (c .args .level .tokens)) (c .args .structs) (c .args .level .place) (c .args .level .end) _ _ (items (c .args .nodes .now)) (items (c .new-frames .result)) (c .pre .inside) (c .place .ensures) (c .end .ensures) empty
-    , omega (arith, c .new-frames .ensures .counts), omega (arith, c .pre .nodes), refl, refl, (refl, refl), (refl, refl))
+    let empty : items (c .new-frames .result) ≡ [] = ap (λ (n : ℕ). take n (now (c .new-frames .result .space))) (c .new-frames .ensures .counts) in (
+      sound-start (g .H·Host .reading (c .args .host .now)) (now (c .args .level .page)) (now (c .args .level .tokens)) (c .args .structs) (c .args .level .place) (c .args .level .end) _ _ (items (c .args .nodes .now)) (items (c .new-frames .result)) (c .pre .inside) (c .place .ensures) (c .end .ensures) empty,
+      omega (arith, c .new-frames .ensures .counts),
+      omega (arith, c .pre .nodes),
+      refl,
+      refl,
+      (refl, refl),
+      (refl, refl),
+    )
 
 pub loop-next-less : need.loop-next-less
 loop-next-less g c = c .in-Go .ensures tt .kept _ (items (c .args .nodes .now)) (c .loop-next .inv .0) .falls

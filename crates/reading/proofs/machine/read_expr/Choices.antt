@@ -9,8 +9,8 @@ use Rattle.reading.proofs.machine.read_expr.Given as given
 abbrev pub Inv-loop-next : given.InvT-loop-next
 Inv-loop-next g l =
     Sound (g .H·Host .reading (l .host)) (now (l .level .page)) (now (l .level .tokens)) (l .level .end)
-      (readTask (g .H·Host .reading (l .host)) (now (l .level .page)) (now (l .level .tokens)) (expr (l .structs) 0 (l .level .place) (l .level .end)))
-      (items (l .entry .nodes)) (items (l .nodes)) (items (l .frames)) (l .at)
+    (readTask (g .H·Host .reading (l .host)) (now (l .level .page)) (now (l .level .tokens)) (expr (l .structs) 0 (l .level .place) (l .level .end)))
+    (items (l .entry .nodes)) (items (l .nodes)) (items (l .frames)) (l .at)
     × (used (l .frames) ≤ room (l .frames))
     × (used (l .nodes) ≤ room (l .nodes))
     × (room (l .frames) ≡ room (l .entry .frames))
@@ -21,5 +21,5 @@ Inv-loop-next g l =
 abbrev pub μ-loop-next : given.MeasureT-loop-next
 μ-loop-next g l =
     toGo (g .H·Host .reading (l .host)) (now (l .level .page)) (now (l .level .tokens)) (l .level .end)
-      (readTask (g .H·Host .reading (l .host)) (now (l .level .page)) (now (l .level .tokens)) (expr (l .structs) 0 (l .level .place) (l .level .end)))
-      (items (l .frames)) (l .at)
+    (readTask (g .H·Host .reading (l .host)) (now (l .level .page)) (now (l .level .tokens)) (expr (l .structs) 0 (l .level .place) (l .level .end)))
+    (items (l .frames)) (l .at)

@@ -21,8 +21,8 @@ pub attach-links-requires : need.attach-links-requires
 attach-links-requires g c κs =
     record {
       last =
-        subst (λ (n : ℕ). LastIn (c .in-Some .f .links .last) n) (counted (c .args .nodes .now) (c .pre .nodes))
-        (lasts (g .H·Host .reading (c .args .host .now)) (g .H·Host·met .lawful (c .args .host .now)) (now (c .args .all .page)) (now (c .args .all .tokens)) (c .args .all .end) (c .pre .ready .whole) (c .pre .ready .start) _ _ _ (c .in-Some .f) (c .args .at) (c .pre .ready .sound) (c .in-Some .ensures tt .cases .0));
+          subst (λ (n : ℕ). LastIn (c .in-Some .f .links .last) n) (counted (c .args .nodes .now) (c .pre .nodes))
+          (lasts (g .H·Host .reading (c .args .host .now)) (g .H·Host·met .lawful (c .args .host .now)) (now (c .args .all .page)) (now (c .args .all .tokens)) (c .args .all .end) (c .pre .ready .whole) (c .pre .ready .start) _ _ _ (c .in-Some .f) (c .args .at) (c .pre .ready .sound) (c .in-Some .ensures tt .cases .0));
       held = c .pre .nodes;
     }
 
@@ -32,8 +32,8 @@ close-requires g c κs =
       level = level (g .H·Host .reading (c .args .host .now)) (g .H·Host·met .lawful (c .args .host .now)) (now (c .args .all .page)) (now (c .args .all .tokens)) (c .args .all .end) (c .pre .ready .whole) (c .pre .ready .start) _ _ (c .args .at) (c .pre .ready .sound);
       inside = c .pre .ready .sound .inside;
       shut =
-        subst (λ (h : Frame). c .args .at .end + shutOf (h .job) ≤ h .end) (sym (c .relinked .ensures))
-        (closes (g .H·Host .reading (c .args .host .now)) (g .H·Host·met .lawful (c .args .host .now)) (now (c .args .all .page)) (now (c .args .all .tokens)) (c .args .all .end) (c .pre .ready .whole) (c .pre .ready .start) _ _ _ (c .in-Some .f) (c .args .at) (c .pre .ready .sound) (c .in-Some .ensures tt .cases .0));
+          subst (λ (h : Frame). c .args .at .end + shutOf (h .job) ≤ h .end) (sym (c .relinked .ensures))
+          (closes (g .H·Host .reading (c .args .host .now)) (g .H·Host·met .lawful (c .args .host .now)) (now (c .args .all .page)) (now (c .args .all .tokens)) (c .args .all .end) (c .pre .ready .whole) (c .pre .ready .start) _ _ _ (c .in-Some .f) (c .args .at) (c .pre .ready .sound) (c .in-Some .ensures tt .cases .0));
     }
 
 pub apply-requires : need.apply-requires
@@ -44,13 +44,13 @@ apply-requires g c κs =
     let roomy : length (c .pre .ready .start) + c .args .all .end ≤ room (c .attach-links .last .nodes) = omega (arith, c .attach-links .ensures .room, c .pre .ready .forNodes) in
     let n : ℕ = c .count-in-Some .result in
     let space : RoomFor (closeOf (now (c .args .all .tokens)) n (c .relinked .result) (c .args .at)) (length (items (c .pop .last .self))) (room (c .pop .last .self)) (length (items (c .args .nodes .now))) (room (c .attach-links .last .nodes)) =
-          room-close (g .H·Host .reading (c .args .host .now)) (g .H·Host·met .lawful (c .args .host .now)) (now (c .args .all .page)) (now (c .args .all .tokens)) (c .args .all .end) (c .pre .ready .whole) (c .pre .ready .start) n _ _ _ (c .in-Some .f) (c .relinked .result) (c .args .at) _ _ (c .pre .ready .sound) (c .in-Some .ensures tt .cases .0) wide roomy in
+    room-close (g .H·Host .reading (c .args .host .now)) (g .H·Host·met .lawful (c .args .host .now)) (now (c .args .all .page)) (now (c .args .all .tokens)) (c .args .all .end) (c .pre .ready .whole) (c .pre .ready .start) n _ _ _ (c .in-Some .f) (c .relinked .result) (c .args .at) _ _ (c .pre .ready .sound) (c .in-Some .ensures tt .cases .0) wide roomy in
     let move = closeOf (now (c .args .all .tokens)) n (c .relinked .result) (c .args .at) in
     record {
       room =
-        subst (λ (m : Move). RoomFor m (used (c .pop .last .self)) (room (c .pop .last .self)) (used (c .attach-links .last .nodes)) (room (c .attach-links .last .nodes))) (sym (c .close .ensures))
-        (subst (λ (k : ℕ). RoomFor move (used (c .pop .last .self)) (room (c .pop .last .self)) k (room (c .attach-links .last .nodes))) (counted (c .args .nodes .now) (c .pre .nodes) ∙ sym (c .attach-links .ensures .count))
-        (subst (λ (k : ℕ). RoomFor move k (room (c .pop .last .self)) (length (items (c .args .nodes .now))) (room (c .attach-links .last .nodes))) (counted (c .pop .last .self) fits) space));
+          subst (λ (m : Move). RoomFor m (used (c .pop .last .self)) (room (c .pop .last .self)) (used (c .attach-links .last .nodes)) (room (c .attach-links .last .nodes))) (sym (c .close .ensures))
+          (subst (λ (k : ℕ). RoomFor move (used (c .pop .last .self)) (room (c .pop .last .self)) k (room (c .attach-links .last .nodes))) (counted (c .args .nodes .now) (c .pre .nodes) ∙ sym (c .attach-links .ensures .count))
+          (subst (λ (k : ℕ). RoomFor move k (room (c .pop .last .self)) (length (items (c .args .nodes .now))) (room (c .attach-links .last .nodes))) (counted (c .pop .last .self) fits) space));
       frames = fits;
       nodes = omega (arith, c .attach-links .ensures .count, c .attach-links .ensures .room, c .pre .nodes);
     }
@@ -60,12 +60,12 @@ apply-requires-in-rest g c κs =
     let n : ℕ = c .count .result in
     let move = decideOf (g .H·Host .reading (c .args .host .now)) (now (c .args .all .page)) (now (c .args .all .tokens)) n (c .args .at) in
     let space : RoomFor move (length (items (c .args .frames .now))) (room (c .args .frames .now)) (length (items (c .args .nodes .now))) (room (c .args .nodes .now)) =
-          room-step (g .H·Host .reading (c .args .host .now)) (g .H·Host·met .lawful (c .args .host .now)) (now (c .args .all .page)) (now (c .args .all .tokens)) (c .args .all .end) (c .pre .ready .whole) (c .pre .ready .start) n _ _ (c .args .at) _ _ (c .pre .ready .sound) (c .pre .ready .forFrames) (c .pre .ready .forNodes) in
+    room-step (g .H·Host .reading (c .args .host .now)) (g .H·Host·met .lawful (c .args .host .now)) (now (c .args .all .page)) (now (c .args .all .tokens)) (c .args .all .end) (c .pre .ready .whole) (c .pre .ready .start) n _ _ (c .args .at) _ _ (c .pre .ready .sound) (c .pre .ready .forFrames) (c .pre .ready .forNodes) in
     record {
       room =
-        subst (λ (m : Move). RoomFor m (used (c .args .frames .now)) (room (c .args .frames .now)) (used (c .args .nodes .now)) (room (c .args .nodes .now))) (sym (c .decide .ensures))
-        (subst (λ (k : ℕ). RoomFor move (used (c .args .frames .now)) (room (c .args .frames .now)) k (room (c .args .nodes .now))) (counted (c .args .nodes .now) (c .pre .nodes))
-        (subst (λ (k : ℕ). RoomFor move k (room (c .args .frames .now)) (length (items (c .args .nodes .now))) (room (c .args .nodes .now))) (counted (c .args .frames .now) (c .pre .frames)) space));
+          subst (λ (m : Move). RoomFor m (used (c .args .frames .now)) (room (c .args .frames .now)) (used (c .args .nodes .now)) (room (c .args .nodes .now))) (sym (c .decide .ensures))
+          (subst (λ (k : ℕ). RoomFor move (used (c .args .frames .now)) (room (c .args .frames .now)) k (room (c .args .nodes .now))) (counted (c .args .nodes .now) (c .pre .nodes))
+          (subst (λ (k : ℕ). RoomFor move k (room (c .args .frames .now)) (length (items (c .args .nodes .now))) (room (c .args .nodes .now))) (counted (c .args .frames .now) (c .pre .frames)) space));
       frames = c .pre .frames;
       nodes = c .pre .nodes;
     }
@@ -87,10 +87,10 @@ returns-in-Some g c =
     let held : used (c .attach-links .last .nodes) ≤ room (c .attach-links .last .nodes) = omega (arith, c .attach-links .ensures .count, c .attach-links .ensures .room, c .pre .nodes) in
     record {
       kept = λ o S x.
-        turn-close (g .H·Host .reading (c .args .host .now)) (g .H·Host·met .lawful (c .args .host .now)) (now (c .args .all .page)) (now (c .args .all .tokens)) (c .args .all .end) o S (c .count .result) (c .count-in-Some .result) (c .args .at) (c .in-Ended .root) (sym (c .in-Ended .ensures tt)) _ (items (c .attach-links .last .nodes)) _ _ (items (c .pop .last .self)) _ (c .apply .result) (c .in-Some .f) (c .attach-links .result) x
-        (c .in-Some .ensures tt .cases .0) (c .attach-links .ensures .items) (c .attach-links .ensures .value) (c .count-in-Some .ensures ∙ sym (counted (c .attach-links .last .nodes) held))
-        (subst (λ (h : Frame). Applied (closeOf (now (c .args .all .tokens)) (c .count-in-Some .result) h (c .args .at)) (items (c .pop .last .self)) (items (c .apply .last .frames)) (items (c .attach-links .last .nodes)) (items (c .apply .last .nodes)) (c .apply .result)) (c .relinked .ensures)
-        (subst (λ (m : Move). Applied m (items (c .pop .last .self)) (items (c .apply .last .frames)) (items (c .attach-links .last .nodes)) (items (c .apply .last .nodes)) (c .apply .result)) (c .close .ensures) (c .apply .ensures .applied)));
+          turn-close (g .H·Host .reading (c .args .host .now)) (g .H·Host·met .lawful (c .args .host .now)) (now (c .args .all .page)) (now (c .args .all .tokens)) (c .args .all .end) o S (c .count .result) (c .count-in-Some .result) (c .args .at) (c .in-Ended .root) (sym (c .in-Ended .ensures tt)) _ (items (c .attach-links .last .nodes)) _ _ (items (c .pop .last .self)) _ (c .apply .result) (c .in-Some .f) (c .attach-links .result) x
+          (c .in-Some .ensures tt .cases .0) (c .attach-links .ensures .items) (c .attach-links .ensures .value) (c .count-in-Some .ensures ∙ sym (counted (c .attach-links .last .nodes) held))
+          (subst (λ (h : Frame). Applied (closeOf (now (c .args .all .tokens)) (c .count-in-Some .result) h (c .args .at)) (items (c .pop .last .self)) (items (c .apply .last .frames)) (items (c .attach-links .last .nodes)) (items (c .apply .last .nodes)) (c .apply .result)) (c .relinked .ensures)
+          (subst (λ (m : Move). Applied m (items (c .pop .last .self)) (items (c .apply .last .frames)) (items (c .attach-links .last .nodes)) (items (c .apply .last .nodes)) (c .apply .result)) (c .close .ensures) (c .apply .ensures .applied)));
       frames-in = c .apply .ensures .frames-in;
       nodes-in = c .apply .ensures .nodes-in;
       frames-room = c .apply .ensures .frames-room ∙ ap length (c .in-Some .ensures tt .space);
@@ -103,8 +103,8 @@ pub returns-in-rest : need.returns-in-rest
 returns-in-rest g c =
     record {
       kept = λ o S x.
-        turn-step (g .H·Host .reading (c .args .host .now)) (g .H·Host·met .lawful (c .args .host .now)) (now (c .args .all .page)) (now (c .args .all .tokens)) (c .args .all .end) o S (c .count .result) (c .args .at) (λ y z. c .in-rest .not-Ended y (c .decide .ensures ∙ z)) _ _ _ _ (c .apply-in-rest .result) (c .count .ensures ∙ sym (counted (c .args .nodes .now) (c .pre .nodes))) x
-        (subst (λ (m : Move). Applied m (items (c .args .frames .now)) (items (c .apply-in-rest .last .frames)) (items (c .args .nodes .now)) (items (c .apply-in-rest .last .nodes)) (c .apply-in-rest .result)) (c .decide .ensures) (c .apply-in-rest .ensures .applied));
+          turn-step (g .H·Host .reading (c .args .host .now)) (g .H·Host·met .lawful (c .args .host .now)) (now (c .args .all .page)) (now (c .args .all .tokens)) (c .args .all .end) o S (c .count .result) (c .args .at) (λ y z. c .in-rest .not-Ended y (c .decide .ensures ∙ z)) _ _ _ _ (c .apply-in-rest .result) (c .count .ensures ∙ sym (counted (c .args .nodes .now) (c .pre .nodes))) x
+          (subst (λ (m : Move). Applied m (items (c .args .frames .now)) (items (c .apply-in-rest .last .frames)) (items (c .args .nodes .now)) (items (c .apply-in-rest .last .nodes)) (c .apply-in-rest .result)) (c .decide .ensures) (c .apply-in-rest .ensures .applied));
       frames-in = c .apply-in-rest .ensures .frames-in;
       nodes-in = c .apply-in-rest .ensures .nodes-in;
       frames-room = c .apply-in-rest .ensures .frames-room;

@@ -11,6 +11,6 @@ returns g c =
       exact = core .enters;
       tokens = core .tokens;
       follows =
-        enter-follows (stateOf (c .args .self .now)) (stateOf (c .enter-core .last .self)) (g .H·Host .reading (now (c .args .host))) (g .H·Host·met .lawful (now (c .args .host))) (now (c .args .page)) (now (c .args .tokens)) (c .args .structs) (c .enter-core .result)
-        (core .room) (core .enters) _ (core .tokens)
+          enter-follows (stateOf (c .args .self .now)) (stateOf (c .enter-core .last .self)) (g .H·Host .reading (now (c .args .host))) (g .H·Host·met .lawful (now (c .args .host))) (now (c .args .page)) (now (c .args .tokens)) (c .args .structs) (c .enter-core .result)
+          (core .room) (core .enters) _ (core .tokens);
     }

@@ -7,5 +7,5 @@ pub returns : need.returns
 returns c =
     record {
       value = c .write-heading .ensures;
-      follows = heading-follows (stateOf (c .args .self .now)) (now (c .args .out)) (c .write-heading .result, c .write-heading .last .out) (c .write-heading .ensures)
+      follows = heading-follows (stateOf (c .args .self .now)) (now (c .args .out)) (c .write-heading .result, c .write-heading .last .out) (c .write-heading .ensures);
     }

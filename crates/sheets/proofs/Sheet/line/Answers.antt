@@ -7,5 +7,5 @@ pub returns : need.returns
 returns c =
     record {
       value = c .write-line .ensures;
-      follows = line-follows (stateOf (c .args .self .now)) (c .args .i) (now (c .args .out)) (c .write-line .result, c .write-line .last .out) (c .write-line .ensures)
+      follows = line-follows (stateOf (c .args .self .now)) (c .args .i) (now (c .args .out)) (c .write-line .result, c .write-line .last .out) (c .write-line .ensures);
     }

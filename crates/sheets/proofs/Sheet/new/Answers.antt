@@ -9,7 +9,7 @@ returns c =
     record {
       room = refl;
       empty = record { nodes = refl; rules = refl; many = refl; some = refl; within = omega arith; below = omega arith; short = tt };
-      lender = (refl, refl)
+      lender = (refl, refl);
     }
 
 pub ghost-result : need.ghost-result

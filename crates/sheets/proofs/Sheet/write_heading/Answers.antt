@@ -8,5 +8,5 @@ heading-line-requires c κs =
     let s = stateOf (c .args .self .now) in
     record {
       rules = omega (arith, rules-fit s (c .args .self .now .held));
-      nodes = omega (arith, nodes-fit s (c .args .self .now .held))
+      nodes = omega (arith, nodes-fit s (c .args .self .now .held));
     }

@@ -35,7 +35,7 @@ node-line-requires c κs =
       number = omega (arith, fit, c .if-i-self .left);
       kind = c .number .ensures .within;
       from = subst (λ (n : Node). n .label .from ≤ 4096) same (spans .0);
-      to = subst (λ (n : Node). n .label .to ≤ 4096) same (spans .1)
+      to = subst (λ (n : Node). n .label .to ≤ 4096) same (spans .1);
     }
 
 pub returns : need.returns
