@@ -167,7 +167,7 @@ module _ (reading : Part → List Field → Result ℕ Denial) (page : List ℕ)
     grammar (climb f b t p e) = fromTail f b t p e (tailAt ts f b (treeRank t) p e)
     grammar (items f b from us p c e) = fromItems f b from us p c e
 
-  -- the grammar asked of itself; that a task never asks for one that is not smaller is shown beside it
+  -- the grammar asked of itself; the crate `ownership` proves that a task never asks for one that is not smaller
   unfoldable pub readTask : Task → Outcome
   readTask = tied left (refused refusal.SheetFull) grammar
 

@@ -1,4 +1,5 @@
 pub mod Knots
 pub mod Rows
 pub mod Readings
+pub mod Plainly
 pub mod Examples
