@@ -16,7 +16,8 @@ use Rattle.trees.specs.declared.Kind.the-variants as kind
 use Rattle.trees.specs.declared.Node.{Node}
 use Rattle.trees.specs.Layout.{Tree, branch, none, _then_, labelOf}
 use Rattle.grammar.specs.Grammar.{label}
-use Rattle.sheets.specs.Model.{Entry, entryOf, added, nodesFrom, nodeBytes}
+use Rattle.lines.specs.Lines.{headingBytes}
+use Rattle.sheets.specs.Model.{Entry, Model, entryOf, added, sizes, nodesFrom, nodeBytes}
 
 -- A page is written as its fields, joined by `++`. A field is its tag, the length of its value in two bytes, and its value.
 abbrev field : ℕ → List ℕ → List ℕ
@@ -64,9 +65,13 @@ abbrev pub linesFrom : ℕ → List Node → List ℕ
 linesFrom i [] = []
 linesFrom i (n ∷ ns) = nodeBytes i n ++ linesFrom (i + 1) ns
 
--- once the page is entered, the nodes of the sheet have these lines
+-- what a sheet prints: the heading, and a line for each node
+abbrev pub sheetBytes : Model → List ℕ
+sheetBytes m = headingBytes (length m) (sizes m) ++ linesFrom 0 (nodesFrom 0 m)
+
+-- once the page is entered, the sheet prints these lines
 abbrev pub _has-lines_ : List ℕ → List ℕ → Type 0
-page has-lines bytes = linesFrom 0 (nodesFrom 0 (added [] (enteredAs page))) ≡ bytes
+page has-lines bytes = sheetBytes (added [] (enteredAs page)) ≡ bytes
 
 -- the examples, each named after the expression that its page has
 pub record Examples-hold : Type 0 where
@@ -106,6 +111,7 @@ pub record Examples-hold : Type 0 where
   pub lines-of-sum-with-product :
       name "a" ++ marks "+" ++ name "b" ++ marks "*" ++ name "c"
       has-lines
+      codes "rules 1 nodes 5\n" ++
       codes "0 1 0 0 1\n" ++
       codes "1 1 0 2 3\n" ++
       codes "2 1 0 4 5\n" ++

@@ -2,4 +2,4 @@
 
 pub mod frames;
 pub mod machine;
-pub mod moves;
+mod moves;
