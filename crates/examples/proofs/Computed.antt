@@ -23,7 +23,6 @@ examples_hold =
       two-ranges-assigned = (refl, refl);
       range-divided = (refl, refl);
       range-assigned = (refl, refl);
-      range-fronted = refl;
       cast-with-field = (refl, refl);
       lines-of-sum-with-product = refl;
     }

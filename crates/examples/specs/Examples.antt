@@ -10,7 +10,7 @@ use Rattle.trees.specs.declared.Node.{Node}
 use Rattle.trees.specs.Layout.{Tree, branch, none, ◌then◌, label_of}
 use Rattle.grammar.specs.Grammar.{label}
 use Rattle.lines.specs.Lines.{heading_bytes}
-use Rattle.sheets.specs.Model.{Entry, Model, entry_of, front_of, added, sizes, nodes_from, node_bytes}
+use Rattle.sheets.specs.Model.{Entry, Model, entry_of, added, sizes, nodes_from, node_bytes}
 
 -- A page is written as its fields, joined by `++`. A field is its tag, the length of its value in two bytes, and its value.
 abbrev field : ℕ → List ℕ → List ℕ
@@ -33,12 +33,8 @@ marks text = marks_of (codes text)
 abbrev pub entered_as : List ℕ → Result Entry Refusal
 entered_as page = entry_of (record { nodes = 4096; rules = 256 }) 0 0 statement_reading page 4096 true
 
--- what is taken from the front of a page, into such a sheet
-abbrev pub fronted_as : List ℕ → Result Entry Refusal
-fronted_as page = front_of (record { nodes = 4096; rules = 256 }) 0 0 statement_reading page 4096 true
-
 -- trees with their spans, from the first token to one past the last: a path of one token, an assignment, and a binary
--- operation, whose op is 1 for `+`, 2 for `-` and 3 for `*`; and a range, whose op is 0 for `..`
+-- operation, whose op is 1 for `+`, 2 for `-` and 3 for `*`
 abbrev pub path : (from : ℕ) → Tree
 path from = branch (label kind.Path 0 from (from + 1)) none
 
@@ -48,17 +44,10 @@ assign from to l r = branch (label kind.Assign 0 from to) (none then l then r)
 abbrev pub binary : (op from to : ℕ) → Tree → Tree → Tree
 binary op from to l r = branch (label kind.Binary op from to) (none then l then r)
 
-abbrev pub range : (from to : ℕ) → Tree → Tree → Tree
-range from to l r = branch (label kind.Range 0 from to) (none then l then r)
-
-infix 20 ◌is◌ ◌fronted_is◌taking◌ ◌is_refused_by◌numbered◌ ◌has_lines◌
+infix 20 ◌is◌ ◌is_refused_by◌numbered◌ ◌has_lines◌
 -- the page is entered as the tree, which uses every token up to its end
 abbrev pub ◌is◌ : List ℕ → Tree → Type 0
 page is t = entered_as page ≡ Ok (record { tree = t; used = (label_of t).to })
-
--- from the front of the page the tree is taken, which uses this many tokens, whatever is left over
-abbrev pub ◌fronted_is◌taking◌ : List ℕ → Tree → ℕ → Type 0
-page fronted_is t taking n = fronted_as page ≡ Ok (record { tree = t; used = n })
 
 -- the page is refused, and the refusal has the number
 abbrev pub ◌is_refused_by◌numbered◌ : List ℕ → Refusal → ℕ → Type 0
@@ -107,10 +96,6 @@ pub record ExamplesHold : Type 0 where
   pub range-assigned :
       name "a" ++ marks ".." ++ name "b" ++ marks "=" ++ name "c"
       is_refused_by LeftOver 4 numbered 15
-  -- from the front of `a..b = c` the range is taken, which uses four tokens
-  pub range-fronted :
-      name "a" ++ marks ".." ++ name "b" ++ marks "=" ++ name "c"
-      fronted_is range 0 4 (path 0) (path 3) taking 4
   -- `x as t.f` is refused at `.`
   pub cast-with-field :
       name "x" ++ name "as" ++ name "t" ++ marks "." ++ name "f"

@@ -1,5 +1,7 @@
 // Worked examples of reading, which the prover computes from the definitions: a definition that comes to mean something
 // else is refused here.
+#![tactic(auto)]
+
 ghost use Rattle.std.specs.Prelude.{◌≡◌, true};
 ghost use Rattle.examples.specs.Examples.{ExamplesHold};
 

@@ -1,3 +1,3 @@
-pub mod Lawfuls
+pub mod Levels
 pub mod Knots
 pub mod Steps

@@ -1,35 +1,59 @@
--- The reading of an expression, by recursive descent: a tree with the place where it stops, or the first refusal. What each form
--- of expression is stands in the decisions at a place: heads, tails and what comes next. Assumes nothing.
-use Rattle.std.specs.Prelude.{ℕ, ◌+◌, ◌-◌, ◌*◌, Bool, List, length, Ok, Err, Result}
+-- The reading of an expression, by recursive descent: a tree with the place where it stops, or the first refusal. Assumes nothing.
+use Rattle.std.specs.Prelude.{ℕ, ◌+◌, ◌-◌, Bool, true, false, cond, not, ◌&&◌, List, [], ◌∷◌, ◌++◌, length, Some, None, Ok, Err, Option, Result, ◌==◌}
 use Rattle.refusals.specs.declared.Part.{Part}
+use Rattle.refusals.specs.declared.Part.TheVariants as part
 use Rattle.refusals.specs.declared.Denial.{Denial}
 use Rattle.refusals.specs.declared.Refusal.{Refusal}
 use Rattle.refusals.specs.declared.Refusal.TheVariants as refusal
 use Rattle.tokens.specs.declared.Token.{Token}
-use Rattle.tokens.specs.Looks.{Field}
+use Rattle.tokens.specs.declared.Delimiter.{Delimiter}
+use Rattle.tokens.specs.declared.Delimiter.TheVariants.{Paren, Bracket, Brace}
+use Rattle.tokens.specs.declared.Look.{Look}
+use Rattle.tokens.specs.declared.Look.TheVariants as look
+use Rattle.tokens.specs.Looks.{Field, look_at, mark_at, two_at, level_of}
+use Rattle.operators.specs.declared.Infix.{Infix}
+use Rattle.operators.specs.declared.Infix.TheVariants as infix_op
+use Rattle.operators.specs.Ranks.{rank_of, rank_of_code, above_rank}
 use Rattle.trees.specs.declared.Kind.{Kind}
 use Rattle.trees.specs.declared.Kind.TheVariants as kind
 use Rattle.trees.specs.declared.Label.{Label}
-use Rattle.trees.specs.Layout.{Tree, Trees, branch, none, ◌then◌, label_of}
+use Rattle.trees.specs.declared.Node.{Node}
+use Rattle.trees.specs.Kinds.{kind_number}
+use Rattle.trees.specs.Layout.{Tree, Trees, branch, none, ◌then◌, label_of, lay}
 use Rattle.grammar.specs.Knot.{tied}
-use Rattle.forms.specs.Asks.{any_rank}
 use Rattle.grammar.specs.Heads.{head_at}
-use Rattle.tails.specs.Tails.{class_by, tail_at}
-use Rattle.forms.specs.Members.{half_at}
-use Rattle.forms.specs.Nexts.{next_at}
-use Rattle.forms.specs.declared.Want.{Want}
-use Rattle.forms.specs.declared.Want.TheVariants as want
-use Rattle.forms.specs.declared.Job.{Job}
-use Rattle.forms.specs.declared.Step.{Step}
-use Rattle.forms.specs.declared.Step.TheVariants.{Make, Begin, Refuse}
-use Rattle.forms.specs.declared.Tail.{Tail}
-use Rattle.forms.specs.declared.Tail.TheVariants.{Goes, Halve, Stop}
+use Rattle.grammar.specs.Tails.{tail_at}
+use Rattle.grammar.specs.declared.Head.{Head}
+use Rattle.grammar.specs.declared.Head.TheVariants.{Leaf, Prefix, Group, NoHead}
+use Rattle.grammar.specs.declared.Tail.{Tail}
+use Rattle.grammar.specs.declared.Tail.TheVariants.{Takes, Endless, Casts, Stop, NoTail}
 
 abbrev pub label : Kind → ℕ → ℕ → ℕ → Label
 label k o f t = record { kind = k; op = o; from = f; to = t }
 
-abbrev pub tree_class : Tree → ℕ
-tree_class t = class_by (label_of t).kind (label_of t).op
+-- the kind and the op of the node that an operator makes
+abbrev pub kind_of : Infix → Kind
+kind_of (infix_op.Binary c) = kind.Binary
+kind_of infix_op.Assign = kind.Assign
+kind_of (infix_op.Range closed) = kind.Range
+kind_of infix_op.Cast = kind.Cast
+
+abbrev pub op_of : Infix → ℕ
+op_of (infix_op.Binary c) = c
+op_of infix_op.Assign = 0
+op_of (infix_op.Range closed) = cond closed 1 0
+op_of infix_op.Cast = 0
+
+-- the rank of a node by its kind and op: 0 of one that is not infix; a range without a start has the rank of ranges too
+abbrev pub rank_by : Kind → ℕ → ℕ
+rank_by k o =
+    cond (kind_number k == 20) (rank_of_code o)
+    (cond (kind_number k == 21) 1
+    (cond (kind_number k == 22) 2
+    (cond (kind_number k == 23) 12 0)))
+
+abbrev pub tree_rank : Tree → ℕ
+tree_rank t = rank_by (label_of t).kind (label_of t).op
 
 pub data Outcome : Type 0 where
   -- a tree, and the place where its reading stopped
@@ -41,52 +65,107 @@ and_then (took t q) next = next t q
 and_then (refused r) next = refused r
 
 pub data Task : Type 0 where
-  -- what is wanted at p, in the level that ends at e, with the operators that rank b or more behind it;
+  -- an expression at p, of operators that rank b or more, in the level that ends at e;
   -- f tells whether a path before `{` is a struct
-  expr : (w : Want) (f : Bool) (b p e : ℕ) → Task
+  expr : (f : Bool) (b p e : ℕ) → Task
   -- what goes on from the left operand t, which ended at p
   climb : (f : Bool) (b : ℕ) → Tree → (p e : ℕ) → Task
-  -- the same behind the first half of a float at p that names two members
-  half : (f : Bool) (b : ℕ) → Tree → (p e : ℕ) → Task
-  -- what goes on when a node that began at from, with these children, has what it waited for, which ended at q in a level that
-  -- ends at c
-  after : (j : Job) (f : Bool) (b from : ℕ) → Trees → (q c e : ℕ) → Task
+  -- the items of a tuple from p up to its closer c, behind those that were read, and what goes on behind it
+  items : (f : Bool) (b from : ℕ) → Trees → (p c e : ℕ) → Task
 
--- a task may ask only for one of a smaller size: with fewer tokens left, or with as many behind a finished child
-abbrev pub task_size : Task → ℕ
-task_size (expr w f b p e) = 2 * (e - p)
-task_size (climb f b t p e) = 2 * (e - p)
-task_size (half f b t p e) = 2 * (e - p)
-task_size (after j f b from us q c e) = 2 * (e - q) + 1
+-- the tokens left: a task may ask only for one with fewer
+abbrev pub left : Task → ℕ
+left (expr f b p e) = e - p
+left (climb f b t p e) = e - p
+left (items f b from us p c e) = e - p
+
+module _ (ts : List Token) where
+  abbrev pub comma_at : ℕ → ℕ → Bool
+  comma_at p e = mark_at ts e p == 44
+
+  abbrev pub opens_trailer : Look → Bool
+  opens_trailer (look.Name w) = false
+  opens_trailer (look.Mark c j) = false
+  opens_trailer look.Integer = false
+  opens_trailer look.Float = false
+  opens_trailer look.Literal = false
+  opens_trailer look.Lifetime = false
+  opens_trailer (look.Open Paren n) = true
+  opens_trailer (look.Open Bracket n) = true
+  opens_trailer (look.Open Brace n) = false
+  opens_trailer (look.Close d) = false
+
+  abbrev pub trailer_by : Option Look → Bool
+  trailer_by None = false
+  trailer_by (Some l) = opens_trailer l
+
+  -- what may not follow a cast: `.` but not `..`, `?`, `[` and `(`
+  abbrev pub cast_followed : ℕ → ℕ → Bool
+  cast_followed p e =
+      cond (mark_at ts e p == 46) (not (two_at ts e p 46 46))
+      (cond (mark_at ts e p == 63) true (trailer_by (look_at ts e p)))
 
 module _ (reading : Part → List Field → Result ℕ Denial) (page : List ℕ) (ts : List Token) where
-  module _ (read : Task → Outcome) where
-    -- a node that began at from has these children: it is made, and goes on as an operand; or it waits for one child more
-    abbrev pub perform : Bool → ℕ → ℕ → Trees → ℕ → Step → Outcome
-    perform f b from us e (Make k o q) = read (climb f b (branch (label k o from q) us) q e)
-    perform f b from us e (Begin j a) =
-        and_then (read (expr a.want a.structs a.base a.place a.end))
-        (λ t q. read (after j f b from (us then t) q a.end e))
-    perform f b from us e (Refuse r) = refused r
+  -- a part that the host reads, as a node of its own
+  abbrev pub part_by : Kind → Part → ℕ → Result ℕ Denial → Outcome
+  part_by k w p (Ok n) = took (branch (label k 0 p (p + n)) none) (p + n)
+  part_by k w p (Err d) = refused (refusal.HostRefused p w d)
 
-    abbrev pub follow : Bool → ℕ → Tree → ℕ → ℕ → Tail → Outcome
-    follow f b t p e (Goes s) = perform f b (label_of t).from (none then t) e s
-    follow f b t p e (Halve o q) = read (half f b (branch (label kind.NumberedField o (label_of t).from q) (none then t)) q e)
-    follow f b t p e Stop = took t p
+  abbrev pub part_at : Kind → Part → ℕ → ℕ → Outcome
+  part_at k w p e = part_by k w p (reading w (level_of page ts p e))
+
+  -- the grammar, over the answers to smaller tasks
+  module _ (read : Task → Outcome) where
+    abbrev pub go_on : Bool → ℕ → Label → Trees → ℕ → Outcome
+    go_on f b l us e = read (climb f b (branch l us) l.to e)
+
+    -- behind an item: the closer, or a comma and the items that are left
+    abbrev pub after_item : Kind → Bool → ℕ → ℕ → Trees → ℕ → ℕ → ℕ → Outcome
+    after_item k f b from us q c e =
+        cond (q == c) (go_on f b (label k 0 from (c + 1)) us e)
+        (cond (comma_at ts q c) (read (items f b from us (q + 1) c e)) (refused (refusal.MarkExpected q)))
+
+    -- an operand, and then the operators that take it
+    abbrev pub from_head : Bool → ℕ → ℕ → ℕ → Head → Outcome
+    from_head f b p e (Leaf k q) = go_on f b (label k 0 p q) none e
+    from_head f b p e (Prefix k o q r) =
+        and_then (read (expr f r q e))
+        (λ t s. go_on f b (label k o p s) (none then t) e)
+    from_head f b p e (Group i c) =
+        and_then (read (expr true 0 i c))
+        (λ t q. after_item kind.Paren f b p (none then t) q c e)
+    from_head f b p e (NoHead r) = refused r
+
+    abbrev pub from_tail : Bool → ℕ → Tree → ℕ → ℕ → Tail → Outcome
+    from_tail f b t p e (Takes o q) =
+        and_then (read (expr f (above_rank (rank_of o)) q e))
+        (λ u s. go_on f b (label (kind_of o) (op_of o) (label_of t).from s) (none then t then u) e)
+    from_tail f b t p e (Endless q) = go_on f b (label kind.Range 0 (label_of t).from q) (none then t) e
+    from_tail f b t p e (Casts i) =
+        and_then (part_at kind.TypeName part.TypeName i e)
+        (λ u q. cond (cast_followed ts q e) (refused (refusal.CastFollowed q))
+        (go_on f b (label kind.Cast 0 (label_of t).from q) (none then t then u) e))
+    from_tail f b t p e Stop = took t p
+    from_tail f b t p e (NoTail r) = refused r
+
+    abbrev pub from_items : Bool → ℕ → ℕ → Trees → ℕ → ℕ → ℕ → Outcome
+    from_items f b from us p c e =
+        cond (p == c) (go_on f b (label kind.Tuple 0 from (c + 1)) us e)
+        (and_then (read (expr true 0 p c))
+        (λ t q. after_item kind.Tuple f b from (us then t) q c e))
 
     abbrev pub grammar : Task → Outcome
-    grammar (expr w f b p e) = perform f b p none e (head_at reading page ts w f p e)
-    grammar (climb f b t p e) = follow f b t p e (tail_at page ts f b (tree_class t) p e)
-    grammar (half f b t p e) = perform f b (label_of t).from (none then t) e (half_at page ts p e)
-    grammar (after j f b from us q c e) = perform f b from us e (next_at ts j f q c)
+    grammar (expr f b p e) = from_head f b p e (head_at reading page ts f p e)
+    grammar (climb f b t p e) = from_tail f b t p e (tail_at ts f b (tree_rank t) p e)
+    grammar (items f b from us p c e) = from_items f b from us p c e
 
-  -- the grammar asked of itself
+  -- the grammar asked of itself; the crate `ownership` proves that a task never asks for one that is not smaller
   unfoldable pub read_task : Task → Outcome
-  read_task = tied task_size (refused refusal.SheetFull) grammar
+  read_task = tied left (refused refusal.SheetFull) grammar
 
   -- one expression from the page's first token on, as far as it goes
   abbrev pub read_expr : Bool → Outcome
-  read_expr f = read_task (expr want.Operand f any_rank 0 (length ts))
+  read_expr f = read_task (expr f 0 0 (length ts))
 
 -- where a reading stopped, or why it was refused
 abbrev pub answer : Outcome → Result ℕ Refusal

@@ -1,3 +1,4 @@
 pub mod Knot
 pub mod Heads
+pub mod Tails
 pub mod Grammar

@@ -9,16 +9,26 @@ use Rattle.tokens.specs.declared.Delimiter.{Delimiter}
 use Rattle.tokens.specs.declared.Delimiter.TheVariants.{Paren, Bracket, Brace}
 use Rattle.tokens.specs.declared.Look.{Look}
 use Rattle.tokens.specs.declared.Look.TheVariants.{Name, Mark, Integer, Float, Literal, Lifetime, Open, Close}
-use Rattle.tokens.specs.Looks.{Field, mark_of, joined_of, same_delimiter}
+use Rattle.tokens.specs.Looks.{Field, mark_of, joined_of}
 use Rattle.hosts.specs.Lawful.{looks}
 use Rattle.hosts.specs.Runs.{colon, less, greater, IsGroup, group, IsPattern, alone, path_only, path_and_group, IsKeyword, word_and_block, IsArguments, angled, IsRun, LongestRun}
-use Rattle.tokens.proofs.Delimiters.{same_is}
-use Rattle.hosts.specs.Statements.{look_role, first_mark, is_alone, is_block_word, colons, behind, path_length, type_length, open_length, group_length, keyword_length, enclosed, arguments_length, with_group, pattern_length, length_of, answer, statement_reading}
+use Rattle.hosts.specs.Statements.{look_role, first_mark, is_alone, is_block_word, colons, behind, path_length, type_length, same_delimiter, open_length, group_length, keyword_length, enclosed, arguments_length, with_group, pattern_length, length_of, answer, statement_reading}
 use Rattle.hosts.specs.Levels.{nth_drop}
 use Rattle.hosts.specs.Roles.{false_true, tested, block_look, block_role, alone_look, alone_role, mark_look_lem}
 use Rattle.hosts.specs.Paths.{colons_look, marked, Reaches, path_found, path_reach, path_first, type_found, type_reach}
 
 -- Groups
+
+same : (d e : Delimiter) → same_delimiter d e ≡ true → d ≡ e
+same Paren Paren t = refl
+same Paren Bracket t = false_true t
+same Paren Brace t = false_true t
+same Bracket Paren t = false_true t
+same Bracket Bracket t = refl
+same Bracket Brace t = false_true t
+same Brace Paren t = false_true t
+same Brace Bracket t = false_true t
+same Brace Brace t = refl
 
 itself : (d : Delimiter) → same_delimiter d d ≡ true
 itself Paren = refl
@@ -35,7 +45,7 @@ opened d Lifetime h = absurd (omega arith)
 opened d (Open e n) h = tested (same_delimiter d e) yes no
   where
     yes : same_delimiter d e ≡ true → Open e n ≡ Open d (open_length d (Open e n))
-    yes t = let len : open_length d (Open e n) ≡ n = rw t in let delimiter = same_is d e t in cc
+    yes t = let len : open_length d (Open e n) ≡ n = rw t in let delimiter = same d e t in cc
 
     no : same_delimiter d e ≡ false → Open e n ≡ Open d (open_length d (Open e n))
     no t = let none : open_length d (Open e n) ≡ 0 = rw t in absurd (omega arith)

@@ -11,7 +11,7 @@ use Rattle.tokens.specs.declared.Word.TheVariants.{Plain, Raw, True, False, Unde
 use Rattle.tokens.specs.declared.Look.{Look}
 use Rattle.tokens.specs.declared.Look.TheVariants.{Name, Mark, Integer, Float, Literal, Lifetime, Open, Close}
 use Rattle.tokens.specs.declared.Token.{Token}
-use Rattle.tokens.specs.Looks.{Field, mark_of, joined_of, same_delimiter}
+use Rattle.tokens.specs.Looks.{Field, mark_of, joined_of}
 use Rattle.hosts.specs.declared.statement.Role.{Role}
 use Rattle.hosts.specs.declared.statement.Role.TheVariants.{Segment, BlockWord, Alone, Mutable, Other}
 use Rattle.hosts.specs.Lawful.{looks}
@@ -133,6 +133,17 @@ references (a ∷ b ∷ l) = cond (mark_of a == ampersand) (cond (is_mutable (lo
 
 abbrev pub type_length : List Look → ℕ
 type_length l = behind (references l) (path_length (drop (references l) l))
+
+abbrev pub same_delimiter : Delimiter → Delimiter → Bool
+same_delimiter Paren Paren = true
+same_delimiter Paren Bracket = false
+same_delimiter Paren Brace = false
+same_delimiter Bracket Paren = false
+same_delimiter Bracket Bracket = true
+same_delimiter Bracket Brace = false
+same_delimiter Brace Paren = false
+same_delimiter Brace Bracket = false
+same_delimiter Brace Brace = true
 
 -- how many tokens a group has that begins with this look
 abbrev pub open_length : Delimiter → Look → ℕ

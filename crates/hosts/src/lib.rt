@@ -1,5 +1,7 @@
-// The interface by which the reading of an expression asks for types, paths, patterns and blocks, and the host for
+// The interface by which the reading of an expression asks for paths, types, patterns, blocks, keyword expressions and arguments, and the host for
 // statements.
+#![tactic(auto)]
+
 ghost use Rattle.std.specs.Prelude.{◌≡◌, ℕ, List, Result};
 ghost use Rattle.refusals.specs.declared.Part.{Part};
 ghost use Rattle.refusals.specs.declared.Denial.{Denial};

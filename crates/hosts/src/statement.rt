@@ -2,13 +2,13 @@
 ghost use Rattle.std.specs.Prelude.{◌≡◌, ◌+◌, ◌<◌, true, ◌==◌};
 ghost use Rattle.tokens.specs.Looks.{level_of};
 ghost use Rattle.hosts.specs.Runs.{LongestRun};
-ghost use Rattle.hosts.specs.Statements.{looks_from, word_role, look_role, first_role, first_mark, is_segment, is_mutable, is_alone, is_block_word, colons, further, segments_length, path_length, references, type_length, open_length, group_length, keyword_length, pattern_length, angled_length, arguments_length, length_of, answer, statement_reading};
+ghost use Rattle.hosts.specs.Statements.{looks_from, word_role, look_role, first_role, first_mark, is_segment, is_mutable, is_alone, is_block_word, colons, further, segments_length, path_length, references, type_length, same_delimiter, open_length, group_length, keyword_length, pattern_length, angled_length, arguments_length, length_of, answer, statement_reading};
 ghost use Rattle.hosts.specs.Law.{statement_lawful};
 
 use super::Host;
 use refusals::{Denial, Part};
 use tokens::window::Window;
-use tokens::{Delimiter, Look, Word, same_delimiter};
+use tokens::{Delimiter, Look, Word};
 
 // Its types are paths behind `&` marks, its patterns single tokens and paths with a group, its blocks groups in braces.
 #[derive(Clone, Copy)]
@@ -244,6 +244,18 @@ fn type_from(w: Window, at: usize) -> usize
     let front = references_from(w, at);
     let next = path_from(w, front);
     if next > front { next } else { at }
+}
+
+// Whether two delimiters are the same.
+fn same_delimiter(a: Delimiter, b: Delimiter) -> bool
+    ensures { result ≡ same_delimiter a b }
+{
+    match (a, b) {
+        (Delimiter::Paren, Delimiter::Paren) => true,
+        (Delimiter::Bracket, Delimiter::Bracket) => true,
+        (Delimiter::Brace, Delimiter::Brace) => true,
+        _ => false,
+    }
 }
 
 // How many tokens a group has that begins with this look, and 0 where none begins.

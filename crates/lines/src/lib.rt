@@ -1,4 +1,6 @@
 // Writes the lines of the output, byte for byte, at the start of a lent output.
+#![tactic(auto)]
+
 ghost use Rattle.std.specs.Prelude.{◌≡◌, ◌+◌, ◌<◌, ◌≤◌, [], ◌∷◌, ◌++◌, map, length, drop, decimal, nat_lt};
 ghost use Rattle.lines.specs.Lines.{spaced, heading_bytes, line_bytes, refusal_bytes, put_at, written};
 

@@ -1,5 +1,7 @@
 // A counted list over a lent space, for every record type. The count is lent too, by whoever keeps the totals.
-ghost use Rattle.std.specs.Prelude.{◌≡◌, ℕ, ◌+◌, ◌-◌, ◌<◌, ◌≤◌, min, List, [], ◌∷◌, ◌++◌, length, take, if◌then◌else◌, Ok, Err, MatchOption, nat_lt, slice_index_or, slice_set};
+#![tactic(auto)]
+
+ghost use Rattle.std.specs.Prelude.{◌≡◌, ℕ, ◌+◌, ◌-◌, ◌<◌, ◌≤◌, min, List, [], ◌∷◌, ◌++◌, length, take, drop, if◌then◌else◌, Ok, Err, MatchOption, nat_lt, slice_index_or, slice_set};
 ghost use Rattle.lists.specs.Lists.{items, rest, used, room, Lent, Pushed, Same};
 
 #[derive(Drop)]
@@ -103,7 +105,9 @@ impl<'a, 'c, T: Copy> Counted<'a, 'c, T> {
 pub fn append<T: Copy>(space: &mut [T], count: &mut usize, x: T) -> Result<usize, T>
     ensures value { result ≡ (if nat_lt count.old (length space.old) then Ok count.old else Err x) }
     ensures pushed { count.old < length space.old → take count.new space.new ≡ take count.old space.old ++ x ∷ [] }
+    ensures behind { count.old < length space.old → drop count.new space.new ≡ drop 1 (drop count.old space.old) }
     ensures count { count.old < length space.old → count.new ≡ count.old + 1 }
+    ensures full { length space.old ≤ count.old → (space.new ≡ space.old) × (count.new ≡ count.old) }
 {
     let mut list = Counted::new(space, count);
     list.push(x)

@@ -1,4 +1,6 @@
 // The infix operators of a rule: how they are spelled in single characters, and how strongly they bind.
+#![tactic(auto)]
+
 ghost use Rattle.std.specs.Prelude.{◌≡◌, ◌<◌, ◌≤◌, true, not, ◌&&◌, ◌||◌, if◌then◌else◌, nat_eq, nat_lt};
 ghost use Rattle.tokens.specs.Looks.{mark_at};
 ghost use Rattle.operators.specs.Ranges.{brace_at, ends_range, range_ends};

@@ -8,19 +8,42 @@ use Rattle.ownership.specs.Ownership.{span, covered, Spanned, Row, Inside, AllIn
 pub some_tokens : (t : Tree) → Spanned t → (label_of t).from < (label_of t).to
 some_tokens (branch l us) s = s.0
 
--- a row may end later
+-- a row may end later, and begin earlier
 pub later : (f t s : ℕ) (us : Trees) → t ≤ s → Row f t us → Row f s us
 later f t s none h row = omega arith
 later f t s (us then u) h row = (row.0, row.1, omega (arith, row.2))
 
--- children of a node that began at f, up to t: in a row, and with a token that none of them has
-pub record Held (f t : ℕ) (us : Trees) : Type 0 where
-  pub row : Row f t us
-  pub own : covered us + 1 + f ≤ t
+earlier : (f g t : ℕ) (us : Trees) → g ≤ f → Row f t us → Row g t us
+earlier f g t none h row = omega arith
+earlier f g t (us then u) h row = (earlier f g (label_of u).from us h row.0, row.1, row.2)
 
--- a node that ends there or behind owns that token
-pub owns : (k : Kind) (o f t s : ℕ) (us : Trees) → t ≤ s → Held f t us → Spanned (branch (label k o f s) us)
-owns k o f t s us h x = (omega (arith, x.own), later f t s us h x.row, omega (arith, x.own))
+-- children in a row cover no more than the row is long
+pub covers : (f t : ℕ) (us : Trees) → Row f t us → covered us + f ≤ t
+covers f t none row = omega arith
+covers f t (us then u) row =
+    let before = covers f (label_of u).from us row.0 in
+    let some = some_tokens u row.1 in
+    omega (arith, row.2)
+
+-- a node owns its first token if its children begin behind it
+pub owns_first : (k : Kind) (o f t : ℕ) (us : Trees) → Row (f + 1) t us → Spanned (branch (label k o f t) us)
+owns_first k o f t us row =
+    let c = covers (f + 1) t us row in
+    (omega arith, earlier (f + 1) f t us (omega arith) row, omega arith)
+
+-- and its last token if they end before it
+pub owns_last : (k : Kind) (o t : ℕ) (u : Tree) → Spanned u → (label_of u).to < t → Spanned (branch (label k o (label_of u).from t) (none then u))
+owns_last k o t u su h =
+    let some = some_tokens u su in
+    (omega arith, (omega arith, su, omega arith), omega arith)
+
+-- and what stands between two of them
+pub owns_between : (k : Kind) (o t : ℕ) (u v : Tree) → Spanned u → Spanned v → (label_of u).to < (label_of v).from → (label_of v).to ≤ t
+    → Spanned (branch (label k o (label_of u).from t) (none then u then v))
+owns_between k o t u v su sv h e =
+    let first = some_tokens u su in
+    let second = some_tokens v sv in
+    (omega arith, ((omega arith, su, omega arith), sv, e), omega arith)
 
 mutual
   -- each node owns a token, so there are at most as many

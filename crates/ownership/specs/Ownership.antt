@@ -6,7 +6,6 @@ use Rattle.tokens.specs.declared.Token.{Token}
 use Rattle.tokens.specs.Looks.{Field}
 use Rattle.hosts.specs.Lawful.{Lawful}
 use Rattle.trees.specs.Layout.{Tree, Trees, branch, none, ◌then◌, label_of, size}
-use Rattle.forms.specs.declared.Want.{Want}
 use Rattle.grammar.specs.Grammar.{took, expr, read_task}
 
 -- how many tokens a tree spans: from its first one up to one past its last
@@ -42,8 +41,8 @@ abbrev mutual
 abbrev pub OfEveryReading : (ℕ → ℕ → Tree → ℕ → Type 0) → Type 0
 OfEveryReading P =
     (reading : Part → List Field → Result ℕ Denial) → ((part : Part) (l : List Field) → Lawful l (reading part l))
-    → (page : List ℕ) (ts : List Token) (w : Want) (f : Bool) (b p e : ℕ) (t : Tree) (q : ℕ)
-    → read_task reading page ts (expr w f b p e) ≡ took t q → P p e t q
+    → (page : List ℕ) (ts : List Token) (f : Bool) (b p e : ℕ) (t : Tree) (q : ℕ)
+    → read_task reading page ts (expr f b p e) ≡ took t q → P p e t q
 
 -- a tree that is read spans the tokens from the first one up to where its reading stopped, and each of its nodes owns one
 abbrev pub ReadsOwn : Type 0

@@ -1,5 +1,7 @@
 // The law of ownership: in every tree that is read, each node has at least one token that none of its children has.
 // The law of plain reading stands beside it.
+#![tactic(auto)]
+
 ghost use Rattle.std.specs.Prelude.{◌≡◌, true};
 ghost use Rattle.ownership.specs.Ownership.{ReadsOwn, FewNodes};
 

@@ -3,12 +3,12 @@ use Rattle.std.proofs.Common.{◌≡◌, ℕ, ◌+◌, ◌-◌, ◌<◌, ◌≤�
 use Rattle.std.proofs.lemmas.List.{get_or_read, length-set, set-append_left}
 use Rattle.std.proofs.lemmas.Bool.{cond-true, lt-ltb}
 use Rattle.refusals.specs.declared.Refusal.{Refusal}
-use Rattle.tokens.specs.Looks.{no_token, same_delimiter}
+use Rattle.tokens.specs.Looks.{no_token}
 use Rattle.tokens.specs.declared.Delimiter.{Delimiter}
 use Rattle.tokens.specs.declared.Look.{Look}
 use Rattle.tokens.specs.declared.Look.TheVariants.{Open}
 use Rattle.tokens.specs.declared.Token.{Token}
-use Rattle.pages.specs.Steps.{Held, relooked, around, added, closed, closing}
+use Rattle.pages.specs.Steps.{Held, same_delimiter, relooked, around, added, closed, closing}
 
 pub gave : (b : Bool) (x n : ℕ) (e : Refusal) → Ok x ≡ cond b (Ok n) (Err e) → (b ≡ true) × (x ≡ n)
 gave true x n e h = (refl, cc)

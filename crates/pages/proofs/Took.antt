@@ -3,14 +3,13 @@ use Rattle.std.proofs.Common.{◌≡◌, ℕ, ◌+◌, ◌-◌, ◌<◌, Bool, t
 use Rattle.std.proofs.lemmas.List.{length-set}
 use Rattle.std.proofs.lemmas.Bool.{ltb-true}
 use Rattle.refusals.specs.declared.Refusal.{Refusal}
-use Rattle.tokens.specs.Looks.{no_token, same_delimiter}
+use Rattle.tokens.specs.Looks.{no_token}
 use Rattle.tokens.specs.declared.Delimiter.{Delimiter}
 use Rattle.tokens.specs.declared.Delimiter.TheVariants.{Paren, Bracket, Brace}
 use Rattle.tokens.specs.declared.Look.{Look}
 use Rattle.tokens.specs.declared.Look.TheVariants.{Name, Mark, Integer, Float, Literal, Lifetime, Open, Close}
 use Rattle.tokens.specs.declared.Token.{Token}
-use Rattle.tokens.proofs.Delimiters.{same_is}
-use Rattle.pages.specs.Steps.{Held, places_back, around, relooked, added, closed, closing, step_by, step}
+use Rattle.pages.specs.Steps.{Held, same_delimiter, places_back, around, relooked, added, closed, closing, step_by, step}
 
 -- a look that is no opener
 abbrev pub NoOpener : Look → Type 0
@@ -20,6 +19,17 @@ pub data Took (room : ℕ) (h : Held) (t : Token) : Held → Type 0 where
   plain : (m : Held) → NoOpener t.look → length h.tokens < room → m.tokens ≡ h.tokens ++ t ∷ [] → m.inner ≡ h.inner → Took room h t m
   opened : (m : Held) (d : Delimiter) → length h.tokens < room → m.tokens ≡ h.tokens ++ relooked t (Open d (places_back (length h.tokens) h.inner)) ∷ [] → m.inner ≡ Some (length h.tokens) → Took room h t m
   shut : (m : Held) (d : Delimiter) (p k : ℕ) → length h.tokens < room → t.look ≡ Close d → h.inner ≡ Some p → (get_or h.tokens p no_token).look ≡ Open d k → m.tokens ≡ set h.tokens p (relooked (get_or h.tokens p no_token) (Open d (length h.tokens - p + 1))) ++ t ∷ [] → m.inner ≡ around p k → Took room h t m
+
+same_is : (d e : Delimiter) → same_delimiter d e ≡ true → d ≡ e
+same_is Paren Paren h = refl
+same_is Paren Bracket h = absurd (let z : ◌≡◌ {A = ℕ} 0 1 = cc in omega arith)
+same_is Paren Brace h = absurd (let z : ◌≡◌ {A = ℕ} 0 1 = cc in omega arith)
+same_is Bracket Paren h = absurd (let z : ◌≡◌ {A = ℕ} 0 1 = cc in omega arith)
+same_is Bracket Bracket h = refl
+same_is Bracket Brace h = absurd (let z : ◌≡◌ {A = ℕ} 0 1 = cc in omega arith)
+same_is Brace Paren h = absurd (let z : ◌≡◌ {A = ℕ} 0 1 = cc in omega arith)
+same_is Brace Bracket h = absurd (let z : ◌≡◌ {A = ℕ} 0 1 = cc in omega arith)
+same_is Brace Brace h = refl
 
 -- what a test let through
 pub passed : {A : Type 0} (b : Bool) (x : Result A Refusal) (e : Refusal) (y : A) → cond b x (Err e) ≡ Ok y → (b ≡ true) × (x ≡ Ok y)

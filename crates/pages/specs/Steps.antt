@@ -2,7 +2,7 @@
 use Rattle.std.specs.Prelude.{ℕ, ◌+◌, ◌-◌, Bool, true, false, cond, List, [], ◌∷◌, ◌++◌, length, get_or, Some, None, Ok, Err, Option, Result, ◌==◌, nat_lt, slice_index_or, slice_set}
 use Rattle.refusals.specs.declared.Refusal.{Refusal}
 use Rattle.refusals.specs.declared.Refusal.TheVariants.{Unbalanced, TooManyTokens}
-use Rattle.tokens.specs.Looks.{no_token, same_delimiter}
+use Rattle.tokens.specs.Looks.{no_token}
 use Rattle.tokens.specs.declared.Delimiter.{Delimiter}
 use Rattle.tokens.specs.declared.Delimiter.TheVariants.{Paren, Bracket, Brace}
 use Rattle.tokens.specs.declared.Look.{Look}
@@ -13,6 +13,17 @@ use Rattle.tokens.specs.declared.Token.{Token}
 pub record Held : Type 0 where
   pub tokens : List Token
   pub inner : Option ℕ
+
+abbrev pub same_delimiter : Delimiter → Delimiter → Bool
+same_delimiter Paren Paren = true
+same_delimiter Paren Bracket = false
+same_delimiter Paren Brace = false
+same_delimiter Bracket Paren = false
+same_delimiter Bracket Bracket = true
+same_delimiter Bracket Brace = false
+same_delimiter Brace Paren = false
+same_delimiter Brace Bracket = false
+same_delimiter Brace Brace = true
 
 -- how many places before n the innermost opener stands, 0 where there is none
 abbrev pub places_back : ℕ → Option ℕ → ℕ

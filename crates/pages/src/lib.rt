@@ -1,4 +1,6 @@
 // Pages: rows of fields, turned into tokens.
+#![tactic(auto)]
+
 ghost use Rattle.std.specs.Prelude.{◌≡◌, min, length, IfOk, Ok, Err, MatchResult};
 ghost use Rattle.pages.specs.Pages.{tokens_of, page_answer, written_over, Accepted, text_of};
 

@@ -2,12 +2,12 @@
 ghost use Rattle.std.specs.Prelude.{◌≡◌, ◌<◌, ◌≤◌, min, IfSome, if◌then◌else◌, Ok, Err, nat_lt};
 ghost use Rattle.lists.specs.Lists.{items, used, room, Lent, Pushed, Same};
 ghost use Rattle.refusals.specs.declared.Refusal.TheVariants.{TooManyTokens};
-ghost use Rattle.pages.specs.Steps.{places_back, around, added, closing, opening, step};
+ghost use Rattle.pages.specs.Steps.{same_delimiter, places_back, around, added, closing, opening, step};
 ghost use Rattle.pages.specs.Taken.{held, Stepped};
 
 use lists::Counted;
 use refusals::Refusal;
-use tokens::{Delimiter, Look, Token, same_delimiter};
+use tokens::{Delimiter, Look, Token};
 
 // No page has more tokens.
 const MOST_TOKENS: usize = 4096;
@@ -26,6 +26,17 @@ fn add(list: &mut Counted<Token>, token: Token, at: usize) -> Result<usize, Refu
     match list.push(token) {
         Ok(place) => Ok(place),
         Err(_) => Err(Refusal::TooManyTokens(at)),
+    }
+}
+
+fn same_delimiter(a: Delimiter, b: Delimiter) -> bool
+    ensures { result ≡ same_delimiter a b }
+{
+    match (a, b) {
+        (Delimiter::Paren, Delimiter::Paren) => true,
+        (Delimiter::Bracket, Delimiter::Bracket) => true,
+        (Delimiter::Brace, Delimiter::Brace) => true,
+        _ => false,
     }
 }
 

@@ -11,17 +11,19 @@ use Rattle.trees.specs.declared.Kind.{Kind}
 use Rattle.trees.specs.declared.Kind.TheVariants as kind
 use Rattle.trees.specs.declared.Node.{Node}
 use Rattle.trees.specs.Layout.{Tree, Trees, branch, none, ◌then◌, label_of, node, sizes, root_at, first_or, first_at, lay, lays}
-use Rattle.grammar.specs.Grammar.{tree_class, Outcome, took, refused, and_then, Task, expr, climb, half, after, task_size, read_task}
-use Rattle.forms.specs.Asks.{shut_of}
+use Rattle.grammar.specs.Grammar.{label, kind_of, op_of, tree_rank, Outcome, took, refused, and_then, Task, expr, climb, items, left, cast_followed, part_at, go_on, after_item, read_task}
+use Rattle.reading.specs.Moves.{shut_of}
 use Rattle.reading.specs.declared.frames.Links.{Links}
+use Rattle.reading.specs.declared.frames.Job.{Job}
+use Rattle.reading.specs.declared.frames.Job.TheVariants as job
 use Rattle.reading.specs.declared.frames.Frame.{Frame}
 use Rattle.reading.specs.declared.frames.Left.{Left}
-use Rattle.reading.specs.declared.frames.Left.TheVariants.{Nothing, Operand, Half}
+use Rattle.reading.specs.declared.frames.Left.TheVariants.{Nothing, TypeWanted, Operand, Whole}
 use Rattle.reading.specs.declared.frames.Spot.{Spot}
 use Rattle.reading.specs.declared.frames.Move.{Move}
-use Rattle.reading.specs.declared.frames.Move.TheVariants.{Push, Emit, Ended, Back}
+use Rattle.reading.specs.declared.frames.Move.TheVariants.{Push, Emit, Ended, Refuse}
 use Rattle.reading.specs.declared.frames.Turn.{Turn}
-use Rattle.reading.specs.declared.frames.Turn.TheVariants.{Go, Done, Refused}
+use Rattle.reading.specs.declared.frames.Turn.TheVariants.{Go, Done, Back}
 
 -- links
 
@@ -54,11 +56,10 @@ links_at j us = record { first = first_at j us; last = last_at j us }
 
 -- frames
 
--- a frame with what no code holds: where it was pushed, the size of the task that asks, and the children that it has
+-- a frame with what no code holds: where it was pushed, and the children that it has
 pub record Wait : Type 0 where
   pub frame : Frame
   pub at : ℕ
-  pub guard : ℕ
   pub held : Trees
 
 abbrev pub flat : List Wait → List Frame
@@ -78,54 +79,62 @@ Linked i (w ∷ ws) = (w.frame.links ≡ links_at (i + length (spilled i ws)) w.
 -- the spot
 
 abbrev pub nodes_by : ℕ → Left → Tree → List Node
-nodes_by j (Nothing w) t = []
+nodes_by j Nothing t = []
+nodes_by j TypeWanted t = []
 nodes_by j (Operand f k r) t = lay j None t
-nodes_by j (Half f r) t = lay j None t
+nodes_by j (Whole r) t = lay j None t
 
 abbrev pub FitBy : ℕ → Left → Tree → Type 0
-FitBy j (Nothing w) t = Unit {0}
-FitBy j (Operand f k r) t = ((label_of t).from ≡ f) × (tree_class t ≡ k) × (root_at j t ≡ r)
-FitBy j (Half f r) t = ((label_of t).from ≡ f) × (root_at j t ≡ r)
+FitBy j Nothing t = Unit {0}
+FitBy j TypeWanted t = Unit {0}
+FitBy j (Operand f k r) t = ((label_of t).from ≡ f) × (tree_rank t ≡ k) × (root_at j t ≡ r)
+FitBy j (Whole r) t = root_at j t ≡ r
 
--- one past the last place where a frame may have been pushed, if the spot is at p
-abbrev pub reach : Left → ℕ → ℕ
-reach (Nothing w) p = p + 1
-reach (Operand f k r) p = p
-reach (Half f r) p = p
-
-abbrev pub weight : Left → ℕ
-weight (Nothing w) = 0
-weight (Operand f k r) = 1
-weight (Half f r) = 1
+-- a further item was asked for behind its comma, every other node where it began
+abbrev pub asked_at : Job → ℕ → ℕ
+asked_at (job.Operand k o) p = p
+asked_at job.First p = p
+asked_at job.Item p = p + 1
+asked_at (job.Right o) p = p
+asked_at job.CastTo p = p
 
 module _ (reading : Part → List Field → Result ℕ Denial) (page : List ℕ) (ts : List Token) where
-  -- what a task of size g may ask for
-  abbrev pub again : ℕ → Task → Outcome
-  again g u = cond (nat_lt (task_size u) g) (read_task reading page ts u) (refused refusal.SheetFull)
+  -- what a task at p, in a level that ends at e, may ask for
+  abbrev pub again : ℕ → ℕ → Task → Outcome
+  again p e u = cond (nat_lt (left u) (e - p)) (read_task reading page ts u) (refused refusal.SheetFull)
 
-  -- what a frame makes of a tree t that ended at q, in a level that ends at c
-  abbrev pub after_by : Wait → ℕ → Tree → ℕ → Outcome
-  after_by w c t q =
-      again w.guard (after w.frame.job w.frame.structs w.frame.base w.frame.from (w.held then t) q c w.frame.end)
+  -- what a frame makes of a tree t that ended at q, in a level that ends at e
+  abbrev pub after_by : Job → Wait → ℕ → Tree → ℕ → Outcome
+  after_by (job.Operand k o) w e t q =
+      go_on reading page ts (again w.at w.frame.end) w.frame.structs w.frame.base (label k o w.frame.from q) (w.held then t) w.frame.end
+  after_by job.First w e t q =
+      after_item reading page ts (again w.at w.frame.end) kind.Paren w.frame.structs w.frame.base w.frame.from (w.held then t) q e w.frame.end
+  after_by job.Item w e t q =
+      after_item reading page ts (again (w.at + 1) w.frame.end) kind.Tuple w.frame.structs w.frame.base w.frame.from (w.held then t) q e w.frame.end
+  after_by (job.Right o) w e t q =
+      go_on reading page ts (again w.at w.frame.end) w.frame.structs w.frame.base (label (kind_of o) (op_of o) w.frame.from q) (w.held then t) w.frame.end
+  after_by job.CastTo w e t q =
+      cond (cast_followed ts q e) (refused (refusal.CastFollowed q))
+      (go_on reading page ts (again w.at w.frame.end) w.frame.structs w.frame.base (label kind.Cast 0 w.frame.from q) (w.held then t) w.frame.end)
 
   -- what the frames make of an outcome of the level that ends at e
   abbrev pub resume : List Wait → ℕ → Outcome → Outcome
   resume [] e o = o
-  resume (w ∷ ws) e o = resume ws w.frame.end (and_then o (after_by w e))
+  resume (w ∷ ws) e o = resume ws w.frame.end (and_then o (after_by w.frame.job w e))
 
   -- what is still to be read at a spot, where t stands left of it
   abbrev pub ahead_by : Left → Spot → Tree → Outcome
-  ahead_by (Nothing w) s t = read_task reading page ts (expr w s.structs s.base s.place s.end)
+  ahead_by Nothing s t = read_task reading page ts (expr s.structs s.base s.place s.end)
+  ahead_by TypeWanted s t = part_at reading page ts kind.TypeName part.TypeName s.place s.end
   ahead_by (Operand f k r) s t = read_task reading page ts (climb s.structs s.base t s.place s.end)
-  ahead_by (Half f r) s t = read_task reading page ts (half s.structs s.base t s.place s.end)
+  ahead_by (Whole r) s t = took t s.place
 
   -- the level of the whole ends at top; what is read is all
   module _ (top : ℕ) (all : Outcome) where
-    -- levels lie in one another, and frames were pushed one behind the other
+    -- levels lie in one another, and frames began before the place
     abbrev pub Stack : List Wait → ℕ → ℕ → Type 0
-    Stack [] m e = e ≤ top
-    Stack (w ∷ ws) m e =
-        (w.at < m) × (e + shut_of w.frame.job ≤ w.frame.end) × (2 * (w.frame.end - w.at) ≤ w.guard) × Stack ws (w.at + 1) w.frame.end
+    Stack [] p e = e ≤ top
+    Stack (w ∷ ws) p e = (w.at < p) × (e + shut_of w.frame.job ≤ w.frame.end) × Stack ws w.at w.frame.end
 
     -- the loop's invariant: S was in the output at the start, N is now, F are the frames
     pub record Sound (S N : List Node) (F : List Frame) (s : Spot) : Type 0 where
@@ -135,14 +144,14 @@ module _ (reading : Part → List Field → Result ℕ Denial) (page : List ℕ)
       pub nodes : N ≡ S ++ (spilled (length S) waits ++ nodes_by (length S + length (spilled (length S) waits)) s.left tree)
       pub links : Linked (length S) waits
       pub fit : FitBy (length S + length (spilled (length S) waits)) s.left tree
-      pub stack : Stack waits (reach s.left s.place) s.end
+      pub stack : Stack waits s.place s.end
       pub inside : s.place ≤ s.end
       -- each frame and each node has a token of its own
       pub room : length N + length F ≤ length S + s.place
       pub means : resume waits s.end (ahead_by s.left s tree) ≡ all
 
     abbrev pub to_go : List Frame → Spot → ℕ
-    to_go F s = 3 * (top - s.place) + length F + weight s.left
+    to_go F s = 2 * (top - s.place) + length F
 
     pub record Going (S : List Node) (F : List Frame) (s : Spot) (N' : List Node) (F' : List Frame) (next : Spot) : Type 0 where
       pub sound : Sound S N' F' next
@@ -163,7 +172,7 @@ module _ (reading : Part → List Field → Result ℕ Denial) (page : List ℕ)
     abbrev pub Kept : List Node → List Frame → Spot → List Node → List Frame → Turn → Type 0
     Kept S F s N' F' (Go next) = Going S F s N' F' next
     Kept S F s N' F' Done = Over S N' s.place
-    Kept S F s N' F' (Refused r) = Turned S N' r
+    Kept S F s N' F' (Back r) = Turned S N' r
 
   -- what a turn starts from, with room for what it may push
   pub record Ready (top : ℕ) (N : List Node) (F : List Frame) (s : Spot) (frameRoom nodeRoom : ℕ) : Type 0 where
@@ -178,14 +187,14 @@ abbrev pub RoomFor : Move → ℕ → ℕ → ℕ → ℕ → Type 0
 RoomFor (Push f next) fs frameRoom ns nodeRoom = fs < frameRoom
 RoomFor (Emit n next) fs frameRoom ns nodeRoom = ns < nodeRoom
 RoomFor (Ended x) fs frameRoom ns nodeRoom = Unit {0}
-RoomFor (Back r) fs frameRoom ns nodeRoom = Unit {0}
+RoomFor (Refuse r) fs frameRoom ns nodeRoom = Unit {0}
 
 -- what a move does to the frames and the output
 abbrev pub Applied : Move → List Frame → List Frame → List Node → List Node → Turn → Type 0
 Applied (Push f next) F F' N N' r = (r ≡ Go next) × (F' ≡ F ++ f ∷ []) × (N' ≡ N)
 Applied (Emit n next) F F' N N' r = (r ≡ Go next) × (F' ≡ F) × (N' ≡ N ++ n ∷ [])
 Applied (Ended x) F F' N N' r = (r ≡ Done) × (F' ≡ F) × (N' ≡ N)
-Applied (Back x) F F' N N' r = (r ≡ Refused x) × (F' ≡ F) × (N' ≡ N)
+Applied (Refuse x) F F' N N' r = (r ≡ Back x) × (F' ≡ F) × (N' ≡ N)
 
 -- what a reading does to the output N: the nodes of its tree behind it, at most one for each token that was read, or, where
 -- it is refused, anything behind it

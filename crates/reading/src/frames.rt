@@ -1,7 +1,22 @@
 // What the loop keeps: frames for nodes that are not finished, and the spot where it stands.
-use forms::{Job, Want};
+use operators::Infix;
 use refusals::Refusal;
-use trees::Node;
+use trees::{Kind, Node};
+
+// What an unfinished node waits for. Each line shows a rule that needs it.
+#[derive(Clone, Copy)]
+pub enum Job {
+    // - x: the operand of a node of this kind and op
+    Operand(Kind, u32),
+    // ( x ): the first thing in a parenthesis
+    First,
+    // ( a, x ): a further item of a tuple
+    Item,
+    // a + x: the right operand
+    Right(Infix),
+    // a as x: the type
+    CastTo,
+}
 
 // The numbers of the first and the last child so far.
 #[derive(Clone, Copy)]
@@ -10,8 +25,7 @@ pub struct Links {
     pub last: Option<usize>,
 }
 
-// A node that is not finished: what it waits for, where it began, and the level, the least rank and the struct flag to go back
-// to.
+// An unfinished node: where it began, and the level, the least rank and the struct flag to go back to.
 #[derive(Clone, Copy)]
 pub struct Frame {
     pub job: Job,
@@ -25,12 +39,14 @@ pub struct Frame {
 // What stands left of the place.
 #[derive(Clone, Copy)]
 pub enum Left {
-    // Nothing: this is wanted.
-    Nothing(Want),
-    // An operand, by its start, its class and the number of its root.
+    // Nothing: an operand is to begin.
+    Nothing,
+    // `as`: a type is to begin.
+    TypeWanted,
+    // An operand, by its start, its rank and the number of its root.
     Operand(usize, u8, usize),
-    // The first half of a float that names two members, by the node's start and the number of its root.
-    Half(usize, usize),
+    // Something that takes no operator, by the number of its root.
+    Whole(usize),
 }
 
 #[derive(Clone, Copy)]
@@ -51,7 +67,7 @@ pub enum Move {
     Emit(Node, Spot),
     // What was begun last has ended, with this root.
     Ended(usize),
-    Back(Refusal),
+    Refuse(Refusal),
 }
 
 // How a turn of the loop ends.
@@ -59,5 +75,5 @@ pub enum Move {
 pub enum Turn {
     Go(Spot),
     Done,
-    Refused(Refusal),
+    Back(Refusal),
 }

@@ -7,7 +7,6 @@ ghost use Rattle.reading.specs.Machine.{attached, link_to, LastIn, Sound, Kept, 
 
 use super::frames::{Frame, Left, Links, Move, Spot, Turn};
 use super::moves::{close, decide, relinked};
-use forms::Want;
 use hosts::Host;
 use lists::Counted;
 use refusals::Refusal;
@@ -37,7 +36,7 @@ fn apply(step: Move, frames: &mut Counted<Frame>, nodes: &mut Counted<Node>) -> 
             Turn::Go(next)
         }
         Move::Ended(_) => Turn::Done,
-        Move::Back(r) => Turn::Refused(r),
+        Move::Refuse(r) => Turn::Back(r),
     }
 }
 
@@ -143,8 +142,8 @@ pub fn read_expr<H: Host>(
     requires inside { level.place ≤ level.end }
     requires stack { level.end ≤ length stack.old }
     requires nodes { used nodes.old + level.end ≤ room nodes.old }
-    ensures value { result ≡ answer (read_task (reading host.now) level.entry.page.now level.entry.tokens.now (expr Want.Operand structs 0 level.entry.place level.entry.end)) }
-    ensures written { Read (read_task (reading host.now) level.entry.page.now level.entry.tokens.now (expr Want.Operand structs 0 level.entry.place level.entry.end)) (items nodes.old) (items nodes.new) }
+    ensures value { result ≡ answer (read_task (reading host.now) level.entry.page.now level.entry.tokens.now (expr structs 0 level.entry.place level.entry.end)) }
+    ensures written { Read (read_task (reading host.now) level.entry.page.now level.entry.tokens.now (expr structs 0 level.entry.place level.entry.end)) (items nodes.old) (items nodes.new) }
     ensures room { room nodes.new ≡ room nodes.old }
     ensures within { used nodes.new ≤ room nodes.new }
     ensures lent { Lent nodes.old nodes.new }
@@ -156,13 +155,13 @@ pub fn read_expr<H: Host>(
         end: level.end(),
         base: 0,
         structs,
-        left: Left::Nothing(Want::Operand),
+        left: Left::Nothing,
     };
     loop {
         match turn_once(host, level, at, &mut frames, nodes) {
             Turn::Go(next) => at = next,
             Turn::Done => return Ok(at.place),
-            Turn::Refused(r) => return Err(r),
+            Turn::Back(r) => return Err(r),
         }
     }
 }

@@ -1,120 +1,237 @@
 // What is to be done at a spot, and what a finished node does to the frame that waited for it. Pure decisions.
-ghost use Rattle.std.specs.Prelude.{◌≡◌, ℕ, ◌+◌, ◌^◌, ◌<◌, ◌≤◌};
-ghost use Rattle.forms.specs.Asks.{shut_of};
-ghost use Rattle.reading.specs.Moves.{one_link, perform_of, follow_of, decide_of, close_of, relinked_of};
+ghost use Rattle.std.specs.Prelude.{◌≡◌, ℕ, ◌+◌, ◌-◌, ◌<◌, ◌≤◌};
+ghost use Rattle.tokens.specs.Looks.{level_of};
+ghost use Rattle.grammar.specs.Grammar.{rank_by};
+ghost use Rattle.reading.specs.Moves.{made_of, finished_of, begin_of, go_of, type_of, decide_of, shut_of, next_item_of, item_of, close_of, relinked_of};
 
-use super::frames::{Frame, Left, Links, Move, Spot};
-use forms::members::see_half;
-use forms::nexts::see_next;
-use forms::{Step, Tail};
+use super::frames::{Frame, Job, Left, Links, Move, Spot};
 use grammar::heads::see_head;
+use grammar::tails::{cast_followed, comma, kind_of, op_of, see_tail};
+use grammar::{Head, Tail};
 use hosts::Host;
-use tails::{class_by, see_tail};
+use operators::{Infix, above, rank};
+use refusals::{Denial, Part, Refusal};
 use tokens::window::Window;
 use trees::{Kind, Label, Node};
 
-// A node that is being read: where it began, the level, the least rank and the flag to go back to, and its children so far.
-#[derive(Clone, Copy)]
-struct Pending {
-    from: usize,
-    base: u8,
-    end: usize,
-    structs: bool,
-    links: Links,
-}
-
-// The node is written, with the number `count`, and stands as an operand; or it waits.
-fn perform(node: Pending, count: usize, step: Step) -> Move
-    ensures { result ≡ perform_of count node.from node.base node.end node.structs node.links step }
+// The rank of a node by its kind and op: 0 of one that is not infix.
+fn rank_by(kind: Kind, op: u32) -> u8
+    ensures { result ≡ rank_by kind op }
 {
-    let Pending {
-        from,
-        base,
-        end,
-        structs,
-        links,
-    } = node;
-    match step {
-        Step::Make(kind, op, to) => Move::Emit(
-            Node {
-                label: Label { kind, op, from, to },
-                first: links.first,
-                next: None,
-            },
-            Spot {
-                place: to,
-                end,
-                base,
-                structs,
-                left: Left::Operand(from, class_by(kind, op), count),
-            },
-        ),
-        Step::Begin(job, ask) => Move::Push(
-            Frame {
-                job,
-                from,
-                base,
-                end,
-                structs,
-                links,
-            },
-            Spot {
-                place: ask.place,
-                end: ask.end,
-                base: ask.base,
-                structs: ask.structs,
-                left: Left::Nothing(ask.want),
-            },
-        ),
-        Step::Refuse(r) => Move::Back(r),
+    match kind {
+        Kind::Binary => {
+            if op < 256 {
+                return rank(Infix::Binary(op as u8));
+            }
+            0
+        }
+        Kind::Assign => 1,
+        Kind::Range => 2,
+        Kind::Cast => 12,
+        _ => 0,
     }
 }
 
-// A node of which one child is read.
-fn around(at: Spot, from: usize, root: usize) -> Pending
-    ensures from { result.from ≡ from }
-    ensures rest { (result.base ≡ at.base) × (result.end ≡ at.end) × (result.structs ≡ at.structs) }
-    ensures links { result.links ≡ one_link root }
+// The one maker of nodes: the node with the number `count` is written, and stands as an operand.
+fn made(
+    label: Label,
+    first: Option<usize>,
+    base: u8,
+    end: usize,
+    structs: bool,
+    count: usize,
+) -> Move
+    ensures { result ≡ made_of count label first base end structs }
+{
+    let rank = rank_by(label.kind, label.op);
+    Move::Emit(
+        Node {
+            label,
+            first,
+            next: None,
+        },
+        Spot {
+            place: label.to,
+            end,
+            base,
+            structs,
+            left: Left::Operand(label.from, rank, count),
+        },
+    )
+}
+
+// The node that a frame waited to write.
+fn finished(f: Frame, kind: Kind, op: u32, to: usize, count: usize) -> Move
+    ensures { result ≡ finished_of count f kind op to }
+{
+    made(
+        Label {
+            kind,
+            op,
+            from: f.from,
+            to,
+        },
+        f.links.first,
+        f.base,
+        f.end,
+        f.structs,
+        count,
+    )
+}
+
+// An operand begins.
+fn begin(at: Spot, count: usize, head: Head) -> Move
+    ensures { result ≡ begin_of count at head }
+{
+    let links = Links {
+        first: None,
+        last: None,
+    };
+    match head {
+        Head::Leaf(kind, to) => made(
+            Label {
+                kind,
+                op: 0,
+                from: at.place,
+                to,
+            },
+            None,
+            at.base,
+            at.end,
+            at.structs,
+            count,
+        ),
+        Head::Prefix(kind, op, place, base) => Move::Push(
+            Frame {
+                job: Job::Operand(kind, op),
+                from: at.place,
+                base: at.base,
+                end: at.end,
+                structs: at.structs,
+                links,
+            },
+            Spot {
+                place,
+                end: at.end,
+                base,
+                structs: at.structs,
+                left: Left::Nothing,
+            },
+        ),
+        Head::Group(place, close) => Move::Push(
+            Frame {
+                job: Job::First,
+                from: at.place,
+                base: at.base,
+                end: at.end,
+                structs: at.structs,
+                links,
+            },
+            Spot {
+                place,
+                end: close,
+                base: 0,
+                structs: true,
+                left: Left::Nothing,
+            },
+        ),
+        Head::NoHead(r) => Move::Refuse(r),
+    }
+}
+
+// An operand stands, with its root, and what follows it decides.
+fn go_on(at: Spot, from: usize, root: usize, count: usize, tail: Tail) -> Move
+    ensures { result ≡ go_of count at from root tail }
 {
     let links = Links {
         first: Some(root),
         last: Some(root),
     };
-    Pending {
-        from,
-        base: at.base,
-        end: at.end,
-        structs: at.structs,
-        links,
-    }
-}
-
-// What follows an operand.
-fn follow(at: Spot, from: usize, root: usize, count: usize, tail: Tail) -> Move
-    ensures { result ≡ follow_of count at from root tail }
-{
     match tail {
-        Tail::Goes(step) => perform(around(at, from, root), count, step),
-        Tail::Halve(op, to) => Move::Emit(
-            Node {
-                label: Label {
-                    kind: Kind::NumberedField,
-                    op,
+        Tail::Takes(op, place) => Move::Push(
+            Frame {
+                job: Job::Right(op),
+                from,
+                base: at.base,
+                end: at.end,
+                structs: at.structs,
+                links,
+            },
+            Spot {
+                place,
+                end: at.end,
+                base: above(rank(op)),
+                structs: at.structs,
+                left: Left::Nothing,
+            },
+        ),
+        Tail::Endless(to) => {
+            made(
+                Label {
+                    kind: Kind::Range,
+                    op: 0,
                     from,
                     to,
                 },
-                first: Some(root),
-                next: None,
+                Some(root),
+                at.base,
+                at.end,
+                at.structs,
+                count,
+            )
+        }
+        Tail::Casts(place) => Move::Push(
+            Frame {
+                job: Job::CastTo,
+                from,
+                base: at.base,
+                end: at.end,
+                structs: at.structs,
+                links,
             },
             Spot {
-                place: to,
+                place,
                 end: at.end,
-                base: at.base,
+                base: 0,
                 structs: at.structs,
-                left: Left::Half(from, count),
+                left: Left::TypeWanted,
             },
         ),
         Tail::Stop => Move::Ended(root),
+        Tail::NoTail(r) => Move::Refuse(r),
+    }
+}
+
+// A type, which the host reads.
+fn read_type<H: Host>(host: &H, level: Window, at: Spot, count: usize) -> Move
+    requires place { level.place ≡ at.place }
+    requires end { level.end ≡ at.end }
+    ensures { result ≡ type_of count at (reading host.now Part.TypeName (level_of level.entry.page.now level.entry.tokens.now at.place at.end)) }
+{
+    match host.read(Part::TypeName, level) {
+        Ok(n) => {
+            let to = at.place + n;
+            Move::Emit(
+                Node {
+                    label: Label {
+                        kind: Kind::TypeName,
+                        op: 0,
+                        from: at.place,
+                        to,
+                    },
+                    first: None,
+                    next: None,
+                },
+                Spot {
+                    place: to,
+                    end: at.end,
+                    base: at.base,
+                    structs: at.structs,
+                    left: Left::Whole(count),
+                },
+            )
+        }
+        Err(denial) => Move::Refuse(Refusal::HostRefused(at.place, Part::TypeName, denial)),
     }
 }
 
@@ -125,29 +242,62 @@ pub fn decide<H: Host>(host: &H, all: Window, at: Spot, count: usize) -> Move
 {
     let level = all.level(at.place, at.end);
     match at.left {
-        Left::Nothing(want) => {
-            let links = Links {
-                first: None,
-                last: None,
-            };
-            let node = Pending {
-                from: at.place,
-                base: at.base,
-                end: at.end,
-                structs: at.structs,
-                links,
-            };
-            perform(node, count, see_head(host, level, want, at.structs))
-        }
-        Left::Operand(from, class, root) => follow(
+        Left::Nothing => begin(at, count, see_head(host, level, at.structs)),
+        Left::TypeWanted => read_type(host, level, at, count),
+        Left::Operand(from, rank, root) => go_on(
             at,
             from,
             root,
             count,
-            see_tail(level, at.structs, at.base, class),
+            see_tail(level, at.structs, at.base, rank),
         ),
-        Left::Half(from, root) => perform(around(at, from, root), count, see_half(level)),
+        Left::Whole(root) => Move::Ended(root),
     }
+}
+
+// Behind a comma at a place: the closer, or a further item.
+fn next_item(f: Frame, place: usize, close: usize, count: usize) -> Move
+    requires before { place < close }
+    requires shut { close < f.end }
+    ensures { result ≡ next_item_of count f place close }
+{
+    if place + 1 == close {
+        return finished(f, Kind::Tuple, 0, close + 1, count);
+    }
+    Move::Push(
+        Frame {
+            job: Job::Item,
+            from: f.from,
+            base: f.base,
+            end: f.end,
+            structs: f.structs,
+            links: f.links,
+        },
+        Spot {
+            place: place + 1,
+            end: close,
+            base: 0,
+            structs: true,
+            left: Left::Nothing,
+        },
+    )
+}
+
+// Behind an item: the closer, which makes a node of this kind, or a comma.
+fn item(level: Window, f: Frame, kind: Kind, at: Spot, count: usize) -> Move
+    requires place { level.place ≡ at.place }
+    requires end { level.end ≡ at.end }
+    requires inside { at.place ≤ at.end }
+    requires shut { at.end < f.end }
+    ensures { result ≡ item_of level.entry.tokens.now count kind f at }
+{
+    if at.place == at.end {
+        return finished(f, kind, 0, at.end + 1, count);
+    }
+    if comma(level) {
+        return next_item(f, at.place, at.end, count);
+    }
+    Move::Refuse(Refusal::MarkExpected(at.place))
 }
 
 // What the end of a node does to the frame that waited for it.
@@ -158,14 +308,18 @@ pub fn close(all: Window, f: Frame, at: Spot, count: usize) -> Move
     ensures { result ≡ close_of all.entry.tokens.now count f at }
 {
     let level = all.level(at.place, at.end);
-    let node = Pending {
-        from: f.from,
-        base: f.base,
-        end: f.end,
-        structs: f.structs,
-        links: f.links,
-    };
-    perform(node, count, see_next(level, f.job, f.structs))
+    match f.job {
+        Job::Operand(kind, op) => finished(f, kind, op, at.place, count),
+        Job::First => item(level, f, Kind::Paren, at, count),
+        Job::Item => item(level, f, Kind::Tuple, at, count),
+        Job::Right(op) => finished(f, kind_of(op), op_of(op), at.place, count),
+        Job::CastTo => {
+            if cast_followed(level) {
+                return Move::Refuse(Refusal::CastFollowed(at.place));
+            }
+            finished(f, Kind::Cast, 0, at.place, count)
+        }
+    }
 }
 
 // A frame with other links.

@@ -1,4 +1,6 @@
 // Every way in which a call can be refused, with its number, its place and what a host adds to it.
+#![tactic(auto)]
+
 ghost use Rattle.std.specs.Prelude.{◌≡◌};
 ghost use Rattle.refusals.specs.Refusals.{number_of, place_of, host_of, part_of, code_of, part_number};
 
@@ -35,7 +37,8 @@ pub struct Denial {
     pub code: u8,
 }
 
-// Places of the first four are bytes of the page, of the others tokens.
+// Places of the first four are bytes of the page, of the others tokens; a full sheet, a thing that is not there and a short
+// output have none, which is 0.
 #[derive(Clone, Copy)]
 pub enum Refusal {
     // A field's head or value runs past the page.
@@ -70,7 +73,7 @@ pub enum Refusal {
     HostRefused(usize, Part, Denial),
     // No such rule, node or token.
     NotThere,
-    // The output is too short.
+    // The output is shorter than 32 bytes.
     OutputShort,
 }
 

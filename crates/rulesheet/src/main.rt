@@ -1,4 +1,6 @@
 // Enters the first 65,536 bytes of standard input as a rule, and prints the sheet, or why the page was refused.
+#![tactic(auto)]
+
 use hosts::statement::StatementHost;
 use lines::refusal_line;
 use refusals::Refusal;

@@ -7,10 +7,9 @@ use Rattle.tokens.specs.declared.Token.{Token}
 use Rattle.trees.specs.declared.Node.{Node}
 use Rattle.trees.specs.Layout.{size, lay}
 use Rattle.pages.specs.Pages.{tokens_of, fault_of, answer, page_answer}
-use Rattle.forms.specs.declared.Want.TheVariants as want
 use Rattle.grammar.specs.Grammar.{Outcome, expr, read_task, read_expr}
 use Rattle.sheets.specs.declared.records.Rule.{Rule}
-use Rattle.sheets.specs.Model.{Reading, Entry, Room, rule_at, ended, fitting, unless_fault, token_room, entry_by, space_after}
+use Rattle.sheets.specs.Model.{Reading, Entry, Room, rule_at, whole, fitting, unless_fault, token_room, entry_of, space_after}
 use Rattle.sheets.specs.States.{State, room_of, nodes_of, rules_of, Enters, Reads}
 
 pub room_kept : (s t : State) → length t.nodes ≡ length s.nodes → length t.rules ≡ length s.rules → room_of t ≡ room_of s
@@ -28,15 +27,15 @@ front_tokens ts rest space n is long =
     let all : length ts ≤ length ts = omega arith in
     ap (λ (i : ℕ). take i space) k ∙ ap (take (length ts)) is ∙ take-append-le (length ts) ts rest all ∙ take_all (length ts) ts all
 
-module _ (all : Bool) (s : State) (reading : Reading) (page : List ℕ) (k : ℕ) (structs : Bool)
+module _ (s : State) (reading : Reading) (page : List ℕ) (k : ℕ) (structs : Bool)
     (clean : fault_of k page ≡ None)
     (room : length (tokens_of k page) ≤ (room_of s).nodes - s.totals.nodes)
     (free : s.totals.rules < (room_of s).rules) where
   abbrev read : Result Entry Refusal
-  read = ended all (length (tokens_of k page)) (read_expr reading page (tokens_of k page) structs)
+  read = whole (length (tokens_of k page)) (read_expr reading page (tokens_of k page) structs)
 
   abbrev entry : Result Entry Refusal
-  entry = entry_by all (room_of s) s.totals.nodes s.totals.rules reading page k structs
+  entry = entry_of (room_of s) s.totals.nodes s.totals.rules reading page k structs
 
   -- past the page and the room, the entry is the reading
   opened : entry ≡ read
@@ -71,16 +70,16 @@ module _ (all : Bool) (s : State) (reading : Reading) (page : List ℕ) (k : ℕ
   in_accepted t n x reads rules count number = subst (λ (o : Result Entry Refusal). Enters o s t (Ok n)) (sym opened) (accepted read t x n reads rules count number)
 
 -- what the reading of a level does is what the reading of the page's tokens does
-pub level_reads : (all : Bool) (reading : Reading) (page page' : List ℕ) (ts ts' : List Token) (structs : Bool) (p e : ℕ) (N N' : List Node) (n₀ n n' : ℕ) (r : Result Rule Refusal)
+pub level_reads : (reading : Reading) (page page' : List ℕ) (ts ts' : List Token) (structs : Bool) (p e : ℕ) (N N' : List Node) (n₀ n n' : ℕ) (r : Result Rule Refusal)
     → page' ≡ page → ts' ≡ ts → p ≡ 0 → e ≡ length ts → n₀ ≡ n
-    → Reads (ended all e (read_task reading page' ts' (expr want.Operand structs 0 p e))) N n₀ N' n' r
-    → Reads (ended all (length ts) (read_expr reading page ts structs)) N n N' n' r
-level_reads all reading page page' ts ts' structs p e N N' n₀ n n' r pages tokens start stop count reads =
-    subst (λ (x : ℕ). Reads (ended all (length ts) (read_expr reading page ts structs)) N x N' n' r) count
-    (subst (λ (x : List ℕ). Reads (ended all (length ts) (read_task reading x ts (expr want.Operand structs 0 0 (length ts)))) N n₀ N' n' r) pages
-    (subst (λ (x : List Token). Reads (ended all (length ts) (read_task reading page' x (expr want.Operand structs 0 0 (length ts)))) N n₀ N' n' r) tokens
-    (subst (λ (x : ℕ). Reads (ended all (length ts) (read_task reading page' ts' (expr want.Operand structs 0 x (length ts)))) N n₀ N' n' r) start
-    (subst (λ (x : ℕ). Reads (ended all x (read_task reading page' ts' (expr want.Operand structs 0 p x))) N n₀ N' n' r) stop reads))))
+    → Reads (whole e (read_task reading page' ts' (expr structs 0 p e))) N n₀ N' n' r
+    → Reads (whole (length ts) (read_expr reading page ts structs)) N n N' n' r
+level_reads reading page page' ts ts' structs p e N N' n₀ n n' r pages tokens start stop count reads =
+    subst (λ (x : ℕ). Reads (whole (length ts) (read_expr reading page ts structs)) N x N' n' r) count
+    (subst (λ (x : List ℕ). Reads (whole (length ts) (read_task reading x ts (expr structs 0 0 (length ts)))) N n₀ N' n' r) pages
+    (subst (λ (x : List Token). Reads (whole (length ts) (read_task reading page' x (expr structs 0 0 (length ts)))) N n₀ N' n' r) tokens
+    (subst (λ (x : ℕ). Reads (whole (length ts) (read_task reading page' ts' (expr structs 0 x (length ts)))) N n₀ N' n' r) start
+    (subst (λ (x : ℕ). Reads (whole x (read_task reading page' ts' (expr structs 0 p x))) N n₀ N' n' r) stop reads))))
 
 -- what is known once the page is read and the sheet has room
 pub record Opened (s : State) (page : List ℕ) (space after : List Token) (n : ℕ) : Type 0 where

@@ -1,5 +1,5 @@
 -- Each call follows the model, and a sheet always stands for some model. Assumes nothing.
-use Rattle.std.proofs.Common.{◌≡◌, ℕ, ◌+◌, ◌-◌, ◌<◌, ◌≤◌, min, Bool, true, false, ltb, List, [], ◌∷◌, ◌++◌, length, get_or, take, None, Ok, Err, Result, sym, refl, ap, ◌∙◌, subst, arith, length-append, length-take, get_or-take, le-ltb, lt-ltb}
+use Rattle.std.proofs.Common.{◌≡◌, ℕ, ◌+◌, ◌-◌, ◌<◌, ◌≤◌, min, Bool, ltb, List, [], ◌∷◌, ◌++◌, length, get_or, take, None, Ok, Err, Result, sym, refl, ap, ◌∙◌, subst, arith, length-append, length-take, get_or-take, le-ltb, lt-ltb}
 use mathlib.Core.Logic.{∥∥₁_map, ∥∥₁_elim}
 use native.Mathlib.Bridge.{le_prop}
 use Rattle.std.proofs.lemmas.Bool.{cond-true, cond-false}
@@ -13,8 +13,8 @@ use Rattle.trees.specs.Layout.{size, lay}
 use Rattle.hosts.specs.Lawful.{Lawful}
 use Rattle.lines.specs.Lines.{heading_bytes, written}
 use Rattle.sheets.specs.declared.records.Rule.{Rule}
-use Rattle.sheets.specs.Model.{Reading, Model, Entry, Room, sizes, rule_at, nodes_from, rules_from, entry_by, entry_of, front_of, token_room, space_after, numbered, added, no_node, node_bytes, rule_of, node_of, line_of, call_enter, call_front, call_wipe, call_totals, call_rule, call_node, call_heading, call_line, says_number, says_held, says_totals, says_rule, says_node, says_bytes}
-use Rattle.sheets.specs.States.{State, room_of, nodes_of, rules_of, wiped, Short, Holds, Follows, Enters}
+use Rattle.sheets.specs.Model.{Reading, Model, Entry, Room, sizes, rule_at, nodes_from, rules_from, entry_of, token_room, space_after, numbered, added, no_node, node_bytes, line_of, next_of, call_enter, call_totals, call_heading, call_line, says_number, says_totals, says_bytes}
+use Rattle.sheets.specs.States.{State, room_of, nodes_of, rules_of, Short, Holds, Follows, Enters}
 use Rattle.sheets.proofs.Models.{sizes_more, nodes_more, rules_more}
 use Rattle.sheets.proofs.TokenRooms.{tokens_fit}
 use Rattle.sheets.proofs.Shorts.{short_append, short_at, Taken, taken_in}
@@ -48,73 +48,49 @@ entered_answer : (o : Result Entry Refusal) (s t : State) (n : ℕ) (r : Result 
 entered_answer (Ok e) s t n r q (a, b, c, d, f) = a ∙ ap Ok q
 entered_answer (Err x) s t n r q (a, b, c, d) = a
 
-module _ (all : Bool) (s t : State) (reading : Reading) (law : (p : Part) (l : List Field) → Lawful l (reading p l)) (page : List ℕ) (space : List Token) (structs : Bool) (r : Result ℕ Refusal)
+module _ (s t : State) (reading : Reading) (law : (p : Part) (l : List Field) → Lawful l (reading p l)) (page : List ℕ) (space : List Token) (structs : Bool) (r : Result ℕ Refusal)
     (same : room_of t ≡ room_of s)
-    (done : Enters (entry_by all (room_of s) s.totals.nodes s.totals.rules reading page (token_room space) structs) s t r) where
+    (done : Enters (entry_of (room_of s) s.totals.nodes s.totals.rules reading page (token_room space) structs) s t r) where
   abbrev entry_at : ℕ → ℕ → Result Entry Refusal
-  entry_at n k = entry_by all (room_of s) n k reading page (token_room space) structs
+  entry_at n k = entry_of (room_of s) n k reading page (token_room space) structs
 
   enters_at : (m : Model) → Holds s m → Enters (entry_at (sizes m) (length m)) s t r
   enters_at m held =
       subst (λ (k : ℕ). Enters (entry_at (sizes m) k) s t r) held.some
       (subst (λ (n : ℕ). Enters (entry_at n s.totals.rules) s t r) held.many done)
 
-  taken_next : (m : Model) → Holds s m → Holds t (added m (entry_at (sizes m) (length m)))
-  taken_next m held =
-      entered_next s t m r same held (entry_at (sizes m) (length m))
-      (λ e q. taken_in all (room_of s) (sizes m) (length m) reading law page (token_room space) structs e (omega (arith, tokens_fit (token_room space) page)) q) (enters_at m held)
-
-  taken_answer : (after : List Token) → after ≡ space_after page space → (m : Model) → Holds s m
-      → says_number r after ≡ says_number (numbered (length m) (entry_at (sizes m) (length m))) (space_after page space)
-  taken_answer after is m held =
-      ap (λ (x : Result ℕ Refusal). says_number x after) (entered_answer (entry_at (sizes m) (length m)) s t (length m) r held.some (enters_at m held))
-      ∙ ap (λ (x : List Token). says_number (numbered (length m) (entry_at (sizes m) (length m))) x) is
+  pub enter_follows : (after : List Token) → after ≡ space_after page space → Follows s (call_enter reading page space structs) (says_number r after) t
+  enter_follows after is = record {
+    room = same;
+    next = λ m held.
+        entered_next s t m r same held (entry_at (sizes m) (length m))
+        (λ e q. taken_in (room_of s) (sizes m) (length m) reading law page (token_room space) structs e (omega (arith, tokens_fit (token_room space) page)) q) (enters_at m held);
+    answer = λ m held.
+        ap (λ (x : Result ℕ Refusal). says_number x after) (entered_answer (entry_at (sizes m) (length m)) s t (length m) r held.some (enters_at m held))
+        ∙ ap (λ (x : List Token). says_number (numbered (length m) (entry_at (sizes m) (length m))) x) is;
+  }
 
   -- it stands for some model still
   pub still_held : ∥ ((m : Model) × Holds s m) ∥₁ → ∥ ((m : Model) × Holds t m) ∥₁
-  still_held k = ∥∥₁_map k (λ x. (added x.0 (entry_at (sizes x.0) (length x.0)), taken_next x.0 x.1))
-
-module _ (s t : State) (reading : Reading) (law : (p : Part) (l : List Field) → Lawful l (reading p l)) (page : List ℕ) (space : List Token) (structs : Bool) (r : Result ℕ Refusal)
-    (same : room_of t ≡ room_of s) (after : List Token) (is : after ≡ space_after page space) where
-  pub enter_follows : Enters (entry_of (room_of s) s.totals.nodes s.totals.rules reading page (token_room space) structs) s t r
-      → Follows s (call_enter reading page space structs) (says_number r after) t
-  enter_follows done = record {
-    room = same;
-    next = taken_next true s t reading law page space structs r same done;
-    answer = taken_answer true s t reading law page space structs r same done after is;
-  }
-
-  pub front_follows : Enters (front_of (room_of s) s.totals.nodes s.totals.rules reading page (token_room space) structs) s t r
-      → Follows s (call_front reading page space structs) (says_number r after) t
-  front_follows done = record {
-    room = same;
-    next = taken_next false s t reading law page space structs r same done;
-    answer = taken_answer false s t reading law page space structs r same done after is;
-  }
-
--- a sheet with nothing in use is the empty list
-pub empty_holds : (s : State) → s.totals.nodes ≡ 0 → s.totals.rules ≡ 0 → Holds s []
-empty_holds s a b =
-    let none : nodes_of s ≡ [] = ap (λ (k : ℕ). take k s.nodes) a in
-    record {
-      nodes = none;
-      rules = ap (λ (k : ℕ). take k s.rules) b;
-      many = a;
-      some = b;
-      within = omega arith;
-      below = omega arith;
-      short = subst Short (sym none) tt;
-    }
+  still_held k =
+      let f = enter_follows (space_after page space) refl in
+      ∥∥₁_map k (λ x. (next_of (room_of s) x.0 (call_enter reading page space structs), f.next x.0 x.1))
 
 pub empty_held : (s : State) → s.totals.nodes ≡ 0 → s.totals.rules ≡ 0 → ∥ ((m : Model) × Holds s m) ∥₁
-empty_held s a b = ∣ ([], empty_holds s a b) ∣₁
-
-pub wipe_follows : (s : State) → Follows s call_wipe (says_held s.totals.rules) (wiped s)
-wipe_follows s = record {
-  room = refl;
-  next = λ m held. empty_holds (wiped s) refl refl;
-  answer = λ m held. ap says_held held.some;
-}
+empty_held s a b =
+    let none : nodes_of s ≡ [] = ap (λ (k : ℕ). take k s.nodes) a in
+    ∣ (
+      [],
+      record {
+        nodes = none;
+        rules = ap (λ (k : ℕ). take k s.rules) b;
+        many = a;
+        some = b;
+        within = omega arith;
+        below = omega arith;
+        short = subst Short (sym none) tt;
+      },
+    ) ∣₁
 
 -- no more nodes and rules are in use than a sheet takes
 pub nodes_fit : (s : State) → ∥ ((m : Model) × Holds s m) ∥₁ → s.totals.nodes ≤ (room_of s).nodes
@@ -128,20 +104,6 @@ totals_follows s = record {
   room = refl;
   next = λ m held. held;
   answer = λ m held. let a = held.some in let b = held.many in cc;
-}
-
-pub rule_follows : (s : State) (i : ℕ) (r : Result (ℕ × ℕ) Refusal) → r ≡ rule_of (rules_of s) i → Follows s (call_rule i) (says_rule r) s
-rule_follows s i r e = record {
-  room = refl;
-  next = λ m held. held;
-  answer = λ m held. ap says_rule (e ∙ ap (λ (l : List Rule). rule_of l i) held.rules);
-}
-
-pub node_follows : (s : State) (i : ℕ) (r : Result Node Refusal) → r ≡ node_of (nodes_of s) i → Follows s (call_node i) (says_node r) s
-node_follows s i r e = record {
-  room = refl;
-  next = λ m held. held;
-  answer = λ m held. ap says_node (e ∙ ap (λ (l : List Node). node_of l i) held.nodes);
 }
 
 pub heading_follows : (s : State) (out : List ℕ) (r : Result ℕ Refusal × List ℕ) → r ≡ written (heading_bytes s.totals.rules s.totals.nodes) out → Follows s (call_heading out) (says_bytes r) s

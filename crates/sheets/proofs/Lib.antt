@@ -4,7 +4,3 @@ mod Models
 mod Shorts
 mod Follow
 mod TokenRooms
-mod Lookups
-mod Standings
-mod Kepts
-mod Causes

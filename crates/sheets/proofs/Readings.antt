@@ -10,11 +10,8 @@ use Rattle.trees.proofs.Sizes.{lay_length}
 use Rattle.grammar.specs.Grammar.{Outcome, took, refused, answer}
 use Rattle.reading.specs.Machine.{Read, Written, Undone}
 use Rattle.sheets.specs.declared.records.Rule.{Rule}
-use Rattle.sheets.specs.Model.{Entry, rule_at, whole, ended}
+use Rattle.sheets.specs.Model.{Entry, rule_at, whole}
 use Rattle.sheets.specs.States.{Reads}
-
-pub not_asked : {P : Type 0} {all : Bool} → all ≡ true → all ≡ false → P
-not_asked a b = let z : ◌≡◌ {A = ℕ} 0 1 = cc in elim (let y : ⊥ = omega arith in y) [ ]
 
 -- what stood in front stands there still
 front : (N N' more : List Node) (n n' : ℕ) → n ≤ length N → n' ≤ length N' → take n' N' ≡ take n N ++ more → take n N' ≡ take n N
@@ -28,28 +25,21 @@ front N N' more n n' h h' is =
     sym (take-take n n' N' shorter) ∙ ap (take n) is ∙ take-append-le n (take n N) more fits ∙ take_all n (take n N) all
 
 module _ (N N' : List Node) (n n' top : ℕ) (h : n ≤ length N) (h' : n' ≤ length N') where
-  refused_by : (x f : Refusal) (r : Result Rule Refusal) → x ≡ f → Undone (take n N) (take n' N') → r ≡ Err f → Reads (Err x) N n N' n' r
-  refused_by x f r is w re = let e : r ≡ Err x = cc in (e, front N N' w.more n n' h h' w.nodes)
-
-  pub refused_reads : (all : Bool) (o : Outcome) (f : Refusal) (r : Result Rule Refusal) → answer o ≡ Err f → Read o (take n N) (take n' N') → r ≡ Err f → Reads (ended all top o) N n N' n' r
-  refused_reads all (took t q) f r is w re = let z : ◌≡◌ {A = ℕ} 0 1 = cc in elim (let y : ⊥ = omega arith in y) [ ]
-  refused_reads true (refused x) f r is w re = let e : x ≡ f = cc in refused_by x f r e w re
-  refused_reads false (refused x) f r is w re = let e : x ≡ f = cc in refused_by x f r e w re
+  pub refused_reads : (o : Outcome) (f : Refusal) (r : Result Rule Refusal) → answer o ≡ Err f → Read o (take n N) (take n' N') → r ≡ Err f → Reads (whole top o) N n N' n' r
+  refused_reads (took t q) f r is w re = let z : ◌≡◌ {A = ℕ} 0 1 = cc in elim (let y : ⊥ = omega arith in y) [ ]
+  refused_reads (refused x) f r is w re = let e : r ≡ Err x = cc in (e, front N N' w.more n n' h h' w.nodes)
 
   left_by : (t : Tree) (q : ℕ) (b : Bool) → eqb q top ≡ b → (q ≡ top → ⊥) → take n N' ≡ take n N
       → Reads (cond b (Ok (record { tree = t; used = q })) (Err (LeftOver q))) N n N' n' (Err (LeftOver q))
   left_by t q true is ne same = absurd (ne (eqb-true q top is))
   left_by t q false is ne same = (refl, same)
 
-  left_whole : (o : Outcome) (q : ℕ) → answer o ≡ Ok q → (q ≡ top → ⊥) → Read o (take n N) (take n' N') → Reads (whole top o) N n N' n' (Err (LeftOver q))
-  left_whole (took t p) q is ne w =
+  pub left_reads : (o : Outcome) (q : ℕ) → answer o ≡ Ok q → (q ≡ top → ⊥) → Read o (take n N) (take n' N') → Reads (whole top o) N n N' n' (Err (LeftOver q))
+  left_reads (took t p) q is ne w =
       let e : p ≡ q = cc in
       subst (λ (x : ℕ). Reads (whole top (took t x)) N n N' n' (Err (LeftOver q))) (sym e)
       (left_by t q (eqb q top) refl ne (front N N' (lay (length (take n N)) None t) n n' h h' w.nodes))
-  left_whole (refused x) q is ne w = let z : ◌≡◌ {A = ℕ} 0 1 = cc in elim (let y : ⊥ = omega arith in y) [ ]
-
-  pub left_reads : (all : Bool) → all ≡ true → (o : Outcome) (q : ℕ) → answer o ≡ Ok q → (q ≡ top → ⊥) → Read o (take n N) (take n' N') → Reads (ended all top o) N n N' n' (Err (LeftOver q))
-  left_reads all asked o q is ne w = subst (λ (b : Bool). Reads (ended b top o) N n N' n' (Err (LeftOver q))) (sym asked) (left_whole o q is ne w)
+  left_reads (refused x) q is ne w = let z : ◌≡◌ {A = ℕ} 0 1 = cc in elim (let y : ⊥ = omega arith in y) [ ]
 
   -- the count after, and the rule
   counts : (t : Tree) (q : ℕ) → Written (take n N) (take n' N') t q → n' ≡ n + size t
@@ -70,20 +60,16 @@ module _ (N N' : List Node) (n n' top : ℕ) (h : n ≤ length N) (h' : n' ≤ l
   root_is : (t : Tree) → n' ≡ n + size t → n' - 1 ≡ root_at n t
   root_is (branch l us) e = omega arith
 
-  made : (t : Tree) (p q : ℕ) → p ≡ q → Written (take n N) (take n' N') t p → Reads (Ok (record { tree = t; used = p })) N n N' n' (Ok (record { root = n' - 1; used = q }))
-  made t p q e w =
+  pub all_reads : (o : Outcome) (q : ℕ) → answer o ≡ Ok q → q ≡ top → Read o (take n N) (take n' N') → Reads (whole top o) N n N' n' (Ok (record { root = n' - 1; used = q }))
+  all_reads (took t p) q is end w =
+      let e : p ≡ q = cc in
       let long : length (take n N) ≡ n = omega (arith, length-take n N) in
-      let b : n' ≤ n + p = omega (arith, w.few, length-take n N, length-take n' N') in (
+      let b : n' ≤ n + p = omega (arith, w.few, length-take n N, length-take n' N') in
+      let test : eqb p top ≡ true = eq-eqb p top (e ∙ end) in
+      subst (λ (x : Result Entry Refusal). Reads x N n N' n' (Ok (record { root = n' - 1; used = q }))) (sym (cond-true (eqb p top) (Ok (record { tree = t; used = p })) (Err (LeftOver p)) test)) (
         ap (λ (k : ℕ). Ok (record { root = k; used = q })) (root_is t (counts t p w)) ∙ ap (λ (k : ℕ). Ok (record { root = root_at n t; used = k })) (sym e),
         counts t p w,
         w.nodes ∙ ap (λ (k : ℕ). take n N ++ lay k None t) long,
         b,
       )
-
-  pub rule_reads : (all : Bool) (o : Outcome) (q : ℕ) → answer o ≡ Ok q → (all ≡ true → q ≡ top) → Read o (take n N) (take n' N') → Reads (ended all top o) N n N' n' (Ok (record { root = n' - 1; used = q }))
-  rule_reads true (took t p) q is end w =
-      let e : p ≡ q = cc in
-      let test : eqb p top ≡ true = eq-eqb p top (e ∙ end refl) in
-      subst (λ (x : Result Entry Refusal). Reads x N n N' n' (Ok (record { root = n' - 1; used = q }))) (sym (cond-true (eqb p top) (Ok (record { tree = t; used = p })) (Err (LeftOver p)) test)) (made t p q e w)
-  rule_reads false (took t p) q is end w = let e : p ≡ q = cc in made t p q e w
-  rule_reads all (refused x) q is end w = let z : ◌≡◌ {A = ℕ} 0 1 = cc in elim (let y : ⊥ = omega arith in y) [ ]
+  all_reads (refused x) q is end w = let z : ◌≡◌ {A = ℕ} 0 1 = cc in elim (let y : ⊥ = omega arith in y) [ ]

@@ -10,9 +10,8 @@ use Rattle.hosts.specs.Lawful.{Lawful}
 use Rattle.pages.specs.Pages.{tokens_of, fault_of}
 use Rattle.grammar.specs.Grammar.{Outcome, took, refused, read_expr}
 use Rattle.ownership.specs.Ownership.{Inside, AllInside}
-use Rattle.forms.specs.declared.Want.TheVariants as want
 use Rattle.ownership.proofs.Readings.{few_nodes, reads_own}
-use Rattle.sheets.specs.Model.{Reading, Entry, Room, whole, ended, fitting, unless_fault, entry_by, no_node}
+use Rattle.sheets.specs.Model.{Reading, Entry, Room, whole, fitting, unless_fault, entry_of, no_node}
 use Rattle.sheets.specs.States.{Short}
 
 pub short_append : (xs ys : List Node) → Short xs → Short ys → Short (xs ++ ys)
@@ -42,11 +41,6 @@ whole_took n (took t q) e is = go (eqb q n) is
     go false h = let z : ◌≡◌ {A = ℕ} 0 1 = cc in elim (let y : ⊥ = omega arith in y) [ ]
 whole_took n (refused r) e is = let z : ◌≡◌ {A = ℕ} 0 1 = cc in elim (let y : ⊥ = omega arith in y) [ ]
 
-ended_took : (all : Bool) (n : ℕ) (o : Outcome) (e : Entry) → ended all n o ≡ Ok e → o ≡ took e.tree e.used
-ended_took true n o e is = whole_took n o e is
-ended_took false n (took t q) e is = let z : record { tree = t; used = q } ≡ e = cc in ap (λ (x : Entry). took x.tree x.used) z
-ended_took false n (refused r) e is = let z : ◌≡◌ {A = ℕ} 0 1 = cc in elim (let y : ⊥ = omega arith in y) [ ]
-
 fitting_ok : (w : Room) (n r k : ℕ) (o : Result Entry Refusal) (e : Entry) → fitting w n r k o ≡ Ok e → (k ≤ w.nodes - n) × (r < w.rules) × (o ≡ Ok e)
 fitting_ok w n r k o e is = go (leb k (w.nodes - n)) (ltb r w.rules) refl refl is
   where
@@ -65,28 +59,12 @@ pub record Taken (w : Room) (n r : ℕ) (e : Entry) : Type 0 where
   pub rules : r < w.rules
   pub short : (j : ℕ) → Short (lay j None e.tree)
 
--- it was read, of no more tokens than the nodes that were free
-pub record WasRead (w : Room) (n r : ℕ) (reading : Reading) (page : List ℕ) (k : ℕ) (structs : Bool) (e : Entry) : Type 0 where
-  pub room : length (tokens_of k page) ≤ w.nodes - n
-  pub rules : r < w.rules
-  pub is : read_expr reading page (tokens_of k page) structs ≡ took e.tree e.used
-
-pub was_read : (all : Bool) (w : Room) (n r : ℕ) (reading : Reading) (page : List ℕ) (k : ℕ) (structs : Bool) (e : Entry)
-    → entry_by all w n r reading page k structs ≡ Ok e → WasRead w n r reading page k structs e
-was_read all w n r reading page k structs e is =
-    let o = read_expr reading page (tokens_of k page) structs in
-    let f = fitting_ok w n r (length (tokens_of k page)) (ended all (length (tokens_of k page)) o) e (fault_ok (fault_of k page) _ e is) in
-    record { room = f.0; rules = f.1; is = ended_took all (length (tokens_of k page)) o e f.2 }
-
-pub taken_in : (all : Bool) (w : Room) (n r : ℕ) (reading : Reading) → ((p : Part) (l : List Field) → Lawful l (reading p l))
+pub taken_in : (w : Room) (n r : ℕ) (reading : Reading) → ((p : Part) (l : List Field) → Lawful l (reading p l))
     → (page : List ℕ) (k : ℕ) (structs : Bool) (e : Entry) → length (tokens_of k page) ≤ 4096
-    → entry_by all w n r reading page k structs ≡ Ok e → Taken w n r e
-taken_in all w n r reading law page k structs e few is =
-    let read = was_read all w n r reading page k structs e is in
-    let own = few_nodes reading law page (tokens_of k page) want.Operand structs 0 0 (length (tokens_of k page)) e.tree e.used read.is in
-    let within = reads_own reading law page (tokens_of k page) want.Operand structs 0 0 (length (tokens_of k page)) e.tree e.used read.is in
-    record {
-      nodes = omega (arith, own.0, read.room, within.4);
-      rules = read.rules;
-      short = λ j. short_lay (length (tokens_of k page)) few e.tree own.1 j None;
-    }
+    → entry_of w n r reading page k structs ≡ Ok e → Taken w n r e
+taken_in w n r reading law page k structs e few is =
+    let f = fitting_ok w n r (length (tokens_of k page)) (whole (length (tokens_of k page)) (read_expr reading page (tokens_of k page) structs)) e (fault_ok (fault_of k page) _ e is) in
+    let o = whole_took (length (tokens_of k page)) (read_expr reading page (tokens_of k page) structs) e f.2 in
+    let own = few_nodes reading law page (tokens_of k page) structs 0 0 (length (tokens_of k page)) e.tree e.used o in
+    let within = reads_own reading law page (tokens_of k page) structs 0 0 (length (tokens_of k page)) e.tree e.used o in
+    record { nodes = omega (arith, own.0, f.0, within.4); rules = f.1; short = λ j. short_lay (length (tokens_of k page)) few e.tree own.1 j None }

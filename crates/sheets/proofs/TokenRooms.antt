@@ -3,13 +3,13 @@ use Rattle.std.proofs.Common.{◌≡◌, ℕ, zero, suc, ◌+◌, ◌-◌, ◌<�
 use Rattle.std.proofs.lemmas.Bool.{cond_both}
 use Rattle.refusals.specs.declared.Refusal.{Refusal}
 use Rattle.refusals.specs.declared.Refusal.TheVariants.{Unbalanced, TooManyTokens}
-use Rattle.tokens.specs.Looks.{no_token, same_delimiter}
+use Rattle.tokens.specs.Looks.{no_token}
 use Rattle.tokens.specs.declared.Token.{Token}
 use Rattle.tokens.specs.declared.Delimiter.{Delimiter}
 use Rattle.tokens.specs.declared.Look.{Look}
 use Rattle.tokens.specs.declared.Look.TheVariants as look
 use Rattle.pages.specs.Fields.{field_at}
-use Rattle.pages.specs.Steps.{Held, around, relooked, added, closed, closing, opening, step_by, step}
+use Rattle.pages.specs.Steps.{Held, same_delimiter, around, relooked, added, closed, closing, opening, step_by, step}
 use Rattle.pages.specs.Pages.{Outcome, ended, onward, entered, walk, nothing, outcome, tokens_of}
 
 module _ (room at : ℕ) where

@@ -53,15 +53,6 @@ abbrev pub whole : ℕ → Outcome → Result Entry Refusal
 whole n (took t q) = cond (q == n) (Ok (record { tree = t; used = q })) (Err (LeftOver q))
 whole n (refused r) = Err r
 
--- a rule ends where its reading stopped, whatever is left over
-abbrev pub stopping : Outcome → Result Entry Refusal
-stopping (took t q) = Ok (record { tree = t; used = q })
-stopping (refused r) = Err r
-
--- whether all n tokens are asked for, or a rule at their front
-abbrev pub ended : Bool → ℕ → Outcome → Result Entry Refusal
-ended all n o = cond all (whole n o) (stopping o)
-
 -- there are n nodes and r rules: each token needs a free node, and the rule a free rule
 abbrev pub fitting : Room → ℕ → ℕ → ℕ → Result Entry Refusal → Result Entry Refusal
 fitting w n r tokens o = cond (nat_le tokens (w.nodes - n)) (cond (nat_lt r w.rules) o (Err SheetFull)) (Err SheetFull)
@@ -74,18 +65,11 @@ unless_fault None o = o
 abbrev pub token_room : List Token → ℕ
 token_room space = min (length space) 4096
 
--- what a page comes to: the page's own refusals come first, then a full sheet, then the reading's
-abbrev pub entry_by : Bool → Room → ℕ → ℕ → Reading → List ℕ → ℕ → Bool → Result Entry Refusal
-entry_by all w n r reading page k structs =
-    unless_fault (fault_of k page)
-    (fitting w n r (length (tokens_of k page)) (ended all (length (tokens_of k page)) (read_expr reading page (tokens_of k page) structs)))
-
--- what a page is entered as, and what is taken from its front; a sheet is full for either by all the page's tokens
+-- what a page is entered as: the page's own refusals come first, then a full sheet, then the reading's
 abbrev pub entry_of : Room → ℕ → ℕ → Reading → List ℕ → ℕ → Bool → Result Entry Refusal
-entry_of = entry_by true
-
-abbrev pub front_of : Room → ℕ → ℕ → Reading → List ℕ → ℕ → Bool → Result Entry Refusal
-front_of = entry_by false
+entry_of w n r reading page k structs =
+    unless_fault (fault_of k page)
+    (fitting w n r (length (tokens_of k page)) (whole (length (tokens_of k page)) (read_expr reading page (tokens_of k page) structs)))
 
 -- a token space after a call: the records of the fields that were taken in, and then what it held
 abbrev pub space_after : List ℕ → List Token → List Token
@@ -106,19 +90,6 @@ no_node = node (record { kind = kind.Path; op = 0; from = 0; to = 0 }) None None
 abbrev pub node_bytes : ℕ → Node → List ℕ
 node_bytes i n = line_bytes i (kind_number n.label.kind) n.label.op n.label.from n.label.to
 
--- the root and the tokens used of the i-th rule, and the i-th node
-abbrev pub pair_of : Rule → ℕ × ℕ
-pair_of r = (r.root, r.used)
-
-abbrev pub no_rule : Rule
-no_rule = record { root = 0; used = 0 }
-
-abbrev pub rule_of : List Rule → ℕ → Result (ℕ × ℕ) Refusal
-rule_of rs i = cond (nat_lt i (length rs)) (Ok (pair_of (slice_index_or rs i no_rule))) (Err NotThere)
-
-abbrev pub node_of : List Node → ℕ → Result Node Refusal
-node_of ns i = cond (nat_lt i (length ns)) (Ok (slice_index_or ns i no_node)) (Err NotThere)
-
 -- the line of the i-th node at the output's start; first it must be there, then the output long enough
 abbrev pub line_of : List Node → ℕ → List ℕ → Result ℕ Refusal × List ℕ
 line_of ns i out = cond (nat_lt i (length ns)) (written (node_bytes i (slice_index_or ns i no_node)) out) (Err NotThere, out)
@@ -126,43 +97,25 @@ line_of ns i out = cond (nat_lt i (length ns)) (written (node_bytes i (slice_ind
 -- a call, with its host by its meaning, the spaces and outputs that it was given
 pub data Call : Type 0 where
   call_enter : Reading → List ℕ → List Token → Bool → Call
-  call_front : Reading → List ℕ → List Token → Bool → Call
-  call_wipe : Call
   call_totals : Call
-  call_rule : ℕ → Call
-  call_node : ℕ → Call
   call_heading : List ℕ → Call
   call_line : ℕ → List ℕ → Call
 
 -- an answer, with what the token space or the output then holds
 pub data Answer : Type 0 where
   says_number : Result ℕ Refusal → List Token → Answer
-  says_held : ℕ → Answer
   says_totals : ℕ × ℕ → Answer
-  says_rule : Result (ℕ × ℕ) Refusal → Answer
-  says_node : Result Node Refusal → Answer
   says_bytes : Result ℕ Refusal × List ℕ → Answer
 
--- the model after a call
 abbrev pub next_of : Room → Model → Call → Model
 next_of w m (call_enter reading page space structs) = added m (entry_of w (sizes m) (length m) reading page (token_room space) structs)
-next_of w m (call_front reading page space structs) = added m (front_of w (sizes m) (length m) reading page (token_room space) structs)
-next_of w m call_wipe = []
 next_of w m call_totals = m
-next_of w m (call_rule i) = m
-next_of w m (call_node i) = m
 next_of w m (call_heading out) = m
 next_of w m (call_line i out) = m
 
--- what a call is answered
 abbrev pub answer_of : Room → Model → Call → Answer
 answer_of w m (call_enter reading page space structs) =
     says_number (numbered (length m) (entry_of w (sizes m) (length m) reading page (token_room space) structs)) (space_after page space)
-answer_of w m (call_front reading page space structs) =
-    says_number (numbered (length m) (front_of w (sizes m) (length m) reading page (token_room space) structs)) (space_after page space)
-answer_of w m call_wipe = says_held (length m)
 answer_of w m call_totals = says_totals (length m, sizes m)
-answer_of w m (call_rule i) = says_rule (rule_of (rules_from 0 m) i)
-answer_of w m (call_node i) = says_node (node_of (nodes_from 0 m) i)
 answer_of w m (call_heading out) = says_bytes (written (heading_bytes (length m) (sizes m)) out)
 answer_of w m (call_line i out) = says_bytes (line_of (nodes_from 0 m) i out)

@@ -26,10 +26,6 @@ nodes_of s = take s.totals.nodes s.nodes
 abbrev pub rules_of : State → List Rule
 rules_of s = take s.totals.rules s.rules
 
--- what stands on it once it is wiped: the spaces are the same, and nothing in them is in use
-abbrev pub wiped : State → State
-wiped s = state s.nodes s.rules (record { nodes = 0; rules = 0 })
-
 -- no node spans a token past the 4,096th
 abbrev pub Short : List Node → Type 0
 Short [] = Unit {0}

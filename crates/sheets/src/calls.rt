@@ -1,24 +1,19 @@
 // The calls of a sheet.
 ghost use Rattle.std.specs.Prelude.{◌≡◌, ℕ, ◌+◌, ◌-◌, ◌<◌, ◌≤◌, min, List, [], ◌∷◌, ◌++◌, length};
-ghost use Rattle.pages.specs.Pages.{tokens_of};
-ghost use Rattle.grammar.specs.Grammar.{read_expr};
-ghost use Rattle.binding.specs.Laws.{Bound};
 ghost use Rattle.lines.specs.Lines.{heading_bytes, written};
-ghost use Rattle.sheets.specs.Histories.{History, blank, EveryHistoryIsKept, Goes_on};
-ghost use Rattle.sheets.specs.Model.{Room, entry_by, entry_of, front_of, token_room, space_after, rule_of, node_of, line_of, call_enter, call_front, call_wipe, call_totals, call_rule, call_node, call_heading, call_line, says_number, says_held, says_totals, says_rule, says_node, says_bytes};
+ghost use Rattle.sheets.specs.Model.{Room, entry_of, token_room, space_after, line_of, call_enter, call_totals, call_heading, call_line, says_number, says_totals, says_bytes};
 ghost use Rattle.sheets.specs.Sheets.{state_of};
-ghost use Rattle.sheets.specs.States.{room_of, nodes_of, rules_of, wiped, Enters, Follows, Holds};
+ghost use Rattle.sheets.specs.States.{room_of, nodes_of, Enters, Follows, Holds};
 
 use super::Sheet;
 use super::entering::read_rule;
 use super::guard::Guard;
 use super::records::{Rule, Totals};
-use forms::Job;
 use hosts::Host;
 use lines::{heading_line, node_line};
 use lists::append;
 use pages::read_page;
-use reading::frames::{Frame, Links};
+use reading::frames::{Frame, Job, Links};
 use refusals::Refusal;
 use tokens::Token;
 use tokens::window::Window;
@@ -38,17 +33,15 @@ fn free(len: usize, most: usize, used: usize) -> usize
 }
 
 impl<'a, 'b> Sheet<'a, 'b> {
-    // Takes a rule of a page in: of all its tokens, or of those at its front.
     fn enter_core<H: Host>(
         &mut self,
         host: &H,
         page: &[u8],
         tokens: &mut [Token],
-        whole: bool,
         structs: bool,
     ) -> Result<usize, Refusal>
         ensures room { room_of (state_of self.new) ≡ room_of (state_of self.old) }
-        ensures enters { Enters (entry_by whole (room_of (state_of self.old)) self.old.totals.nodes self.old.totals.rules (reading host.now) page.now (token_room tokens.old) structs) (state_of self.old) (state_of self.new) result }
+        ensures enters { Enters (entry_of (room_of (state_of self.old)) self.old.totals.nodes self.old.totals.rules (reading host.now) page.now (token_room tokens.old) structs) (state_of self.old) (state_of self.new) result }
         ensures tokens { tokens.new ≡ space_after page.now tokens.old }
     {
         let count = read_page(page, tokens)?;
@@ -67,15 +60,7 @@ impl<'a, 'b> Sheet<'a, 'b> {
         }
         let level = Window::new(page, &tokens[0..count]);
         let mut guard = Guard::new(totals);
-        let rule = read_rule(
-            host,
-            level,
-            whole,
-            structs,
-            frames,
-            nodes,
-            &mut guard.totals.nodes,
-        )?;
+        let rule = read_rule(host, level, structs, frames, nodes, &mut guard.totals.nodes)?;
         let number = guard.totals.rules;
         let _ = append(rules, &mut guard.totals.rules, rule);
         guard.disarm();
@@ -99,41 +84,18 @@ impl<'a, 'b> Sheet<'a, 'b> {
         node_line(i, label.kind.number(), label.op, label.from, label.to, out)
     }
 
-    fn see_rule(&self, i: usize) -> Result<(usize, usize), Refusal>
-        ensures { result ≡ rule_of (rules_of (state_of self.now)) i }
-    {
-        if i >= self.totals.rules {
-            return Err(Refusal::NotThere);
-        }
-        let rules = &*self.rules;
-        let rule = rules[i];
-        Ok((rule.root, rule.used))
-    }
-
-    fn see_node(&self, i: usize) -> Result<Node, Refusal>
-        ensures { result ≡ node_of (nodes_of (state_of self.now)) i }
-    {
-        if i >= self.totals.nodes {
-            return Err(Refusal::NotThere);
-        }
-        let nodes = &*self.nodes;
-        Ok(nodes[i])
-    }
-
     // An empty sheet over a space for nodes and one for rules, of which it uses at most 4,096 and 256.
     pub fn new(nodes: &'a mut [Node], rules: &'b mut [Rule]) -> Sheet<'a, 'b>
         ensures room { room_of (state_of result) ≡ record { nodes = min (length nodes.entry.now) 4096; rules = min (length rules.old) 256 } }
-        ensures lender { (result.nodes.ghost_name ≡ nodes.entry.ghost_name) × (result.rules.ghost_name ≡ rules.entry.ghost_name) }
         ensures empty { Holds (state_of result) [] }
-        ensures begins { History (room_of (state_of result)) blank (state_of result) }
-        ensures law { EveryHistoryIsKept }
+        ensures lender { (result.nodes.ghost_name ≡ nodes.entry.ghost_name) × (result.rules.ghost_name ≡ rules.entry.ghost_name) }
     {
         let links = Links {
             first: None,
             last: None,
         };
         let frame = Frame {
-            job: Job::Paren,
+            job: Job::First,
             from: 0,
             base: 0,
             end: 0,
@@ -160,74 +122,22 @@ impl<'a, 'b> Sheet<'a, 'b> {
         ensures exact { Enters (entry_of (room_of (state_of self.old)) self.old.totals.nodes self.old.totals.rules (reading host.now) page.now (token_room tokens.old) structs) (state_of self.old) (state_of self.new) result }
         ensures tokens { tokens.new ≡ space_after page.now tokens.old }
         ensures follows { Follows (state_of self.old) (call_enter (reading host.now) page.now tokens.old structs) (says_number result tokens.new) (state_of self.new) }
-        ensures history { Goes_on (state_of self.old) (call_enter (reading host.now) page.now tokens.old structs) (says_number result tokens.new) (state_of self.new) }
-        ensures bound { Bound (reading host.now) page.now (tokens_of (token_room tokens.old) page.now) structs (read_expr (reading host.now) page.now (tokens_of (token_room tokens.old) page.now) structs) }
     {
-        self.enter_core(host, page, tokens, true, structs)
-    }
-
-    // Enters a rule from the front of a page, whatever is left over behind it, and answers the rule's number. All else is as
-    // when a page is entered.
-    pub fn front<H: Host>(
-        &mut self,
-        host: &H,
-        page: &[u8],
-        tokens: &mut [Token],
-        structs: bool,
-    ) -> Result<usize, Refusal>
-        ensures exact { Enters (front_of (room_of (state_of self.old)) self.old.totals.nodes self.old.totals.rules (reading host.now) page.now (token_room tokens.old) structs) (state_of self.old) (state_of self.new) result }
-        ensures tokens { tokens.new ≡ space_after page.now tokens.old }
-        ensures follows { Follows (state_of self.old) (call_front (reading host.now) page.now tokens.old structs) (says_number result tokens.new) (state_of self.new) }
-        ensures history { Goes_on (state_of self.old) (call_front (reading host.now) page.now tokens.old structs) (says_number result tokens.new) (state_of self.new) }
-        ensures bound { Bound (reading host.now) page.now (tokens_of (token_room tokens.old) page.now) structs (read_expr (reading host.now) page.now (tokens_of (token_room tokens.old) page.now) structs) }
-    {
-        self.enter_core(host, page, tokens, false, structs)
-    }
-
-    // Empties the sheet, and answers how many rules it held. Its nodes are then used again.
-    pub fn wipe(&mut self) -> usize
-        ensures value { result ≡ self.old.totals.rules }
-        ensures exact { state_of self.new ≡ wiped (state_of self.old) }
-        ensures follows { Follows (state_of self.old) call_wipe (says_held result) (state_of self.new) }
-        ensures history { Goes_on (state_of self.old) call_wipe (says_held result) (state_of self.new) }
-    {
-        let held = self.totals.rules;
-        self.totals = Totals { nodes: 0, rules: 0 };
-        held
+        self.enter_core(host, page, tokens, structs)
     }
 
     // How many rules and nodes are in use.
     pub fn totals(&self) -> (usize, usize)
         ensures value { result ≡ (self.now.totals.rules, self.now.totals.nodes) }
         ensures follows { Follows (state_of self.now) call_totals (says_totals result) (state_of self.now) }
-        ensures history { Goes_on (state_of self.now) call_totals (says_totals result) (state_of self.now) }
     {
         (self.totals.rules, self.totals.nodes)
-    }
-
-    // The root of a rule, and how many tokens it used.
-    pub fn rule(&self, i: usize) -> Result<(usize, usize), Refusal>
-        ensures value { result ≡ rule_of (rules_of (state_of self.now)) i }
-        ensures follows { Follows (state_of self.now) (call_rule i) (says_rule result) (state_of self.now) }
-        ensures history { Goes_on (state_of self.now) (call_rule i) (says_rule result) (state_of self.now) }
-    {
-        self.see_rule(i)
-    }
-
-    // A node: its kind, op and span, its first child and its next sibling.
-    pub fn node(&self, i: usize) -> Result<Node, Refusal>
-        ensures value { result ≡ node_of (nodes_of (state_of self.now)) i }
-        ensures follows { Follows (state_of self.now) (call_node i) (says_node result) (state_of self.now) }
-        ensures history { Goes_on (state_of self.now) (call_node i) (says_node result) (state_of self.now) }
-    {
-        self.see_node(i)
     }
 
     // Writes `rules R nodes N` and a line feed at the output's start, and answers how many bytes that are.
     pub fn heading(&self, out: &mut [u8]) -> Result<usize, Refusal>
         ensures value { (result, out.new) ≡ written (heading_bytes self.now.totals.rules self.now.totals.nodes) out.old }
         ensures follows { Follows (state_of self.now) (call_heading out.old) (says_bytes (result, out.new)) (state_of self.now) }
-        ensures history { Goes_on (state_of self.now) (call_heading out.old) (says_bytes (result, out.new)) (state_of self.now) }
     {
         self.write_heading(out)
     }
@@ -236,7 +146,6 @@ impl<'a, 'b> Sheet<'a, 'b> {
     pub fn line(&self, i: usize, out: &mut [u8]) -> Result<usize, Refusal>
         ensures value { (result, out.new) ≡ line_of (nodes_of (state_of self.now)) i out.old }
         ensures follows { Follows (state_of self.now) (call_line i out.old) (says_bytes (result, out.new)) (state_of self.now) }
-        ensures history { Goes_on (state_of self.now) (call_line i out.old) (says_bytes (result, out.new)) (state_of self.now) }
     {
         self.write_line(i, out)
     }

@@ -2,11 +2,10 @@
 ghost use Rattle.std.specs.Prelude.{◌≡◌, ◌+◌, ◌≤◌, length, take};
 ghost use Rattle.grammar.specs.Grammar.{expr, read_task, answer};
 ghost use Rattle.reading.specs.Machine.{Read};
-ghost use Rattle.sheets.specs.Model.{ended};
+ghost use Rattle.sheets.specs.Model.{whole};
 ghost use Rattle.sheets.specs.States.{Reads};
 
 use super::records::Rule;
-use forms::Want;
 use hosts::Host;
 use lists::Counted;
 use reading::frames::Frame;
@@ -28,20 +27,18 @@ fn read_nodes<H: Host>(
     requires inside { level.place ≤ level.end }
     requires frames { level.end ≤ length frames.old }
     requires nodes { count.old + level.end ≤ length nodes.old }
-    ensures value { result ≡ answer (read_task (reading host.now) level.entry.page.now level.entry.tokens.now (expr Want.Operand structs 0 level.entry.place level.entry.end)) }
-    ensures written { Read (read_task (reading host.now) level.entry.page.now level.entry.tokens.now (expr Want.Operand structs 0 level.entry.place level.entry.end)) (take count.old nodes.old) (take count.new nodes.new) }
+    ensures value { result ≡ answer (read_task (reading host.now) level.entry.page.now level.entry.tokens.now (expr structs 0 level.entry.place level.entry.end)) }
+    ensures written { Read (read_task (reading host.now) level.entry.page.now level.entry.tokens.now (expr structs 0 level.entry.place level.entry.end)) (take count.old nodes.old) (take count.new nodes.new) }
     ensures within { count.new ≤ length nodes.new }
 {
     let mut list = Counted::new(nodes, count);
     read_expr(host, level, structs, frames, &mut list)
 }
 
-// Reads a rule of all the tokens of a level, or of those at its front, behind the nodes in use, and counts its nodes among
-// them.
+// Reads a rule of all the tokens of a level behind the nodes in use, and counts its nodes among them.
 pub fn read_rule<H: Host>(
     host: &H,
     level: Window,
-    whole: bool,
     structs: bool,
     frames: &mut [Frame],
     nodes: &mut [Node],
@@ -50,10 +47,10 @@ pub fn read_rule<H: Host>(
     requires inside { level.place ≤ level.end }
     requires frames { level.end ≤ length frames.old }
     requires nodes { count.old + level.end ≤ length nodes.old }
-    ensures { Reads (ended whole level.entry.end (read_task (reading host.now) level.entry.page.now level.entry.tokens.now (expr Want.Operand structs 0 level.entry.place level.entry.end))) nodes.old count.old nodes.new count.new result }
+    ensures { Reads (whole level.entry.end (read_task (reading host.now) level.entry.page.now level.entry.tokens.now (expr structs 0 level.entry.place level.entry.end))) nodes.old count.old nodes.new count.new result }
 {
     let stop = read_nodes(host, level, structs, frames, nodes, count)?;
-    if whole && stop != level.end() {
+    if stop != level.end() {
         return Err(Refusal::LeftOver(stop));
     }
     Ok(Rule {

@@ -1,4 +1,6 @@
 // The rule sheet: rules as trees of numbered nodes, in two lent spaces. Only its own calls reach one.
+#![tactic(auto)]
+
 ghost use Rattle.sheets.specs.Model.{Model};
 ghost use Rattle.sheets.specs.States.{Holds, state};
 

@@ -1,9 +1,8 @@
 -- What stands at a place of a level: looks, marks, and operators spelled in several marks. Assumes nothing.
-use Rattle.std.specs.Prelude.{ℕ, ◌+◌, ◌-◌, Bool, true, false, cond, ◌&&◌, List, [], ◌∷◌, map, length, get_or, take, drop, Some, None, Option, ◌==◌, nat_lt, slice_index_or, slice_range}
+use Rattle.std.specs.Prelude.{ℕ, ◌+◌, ◌-◌, Bool, true, false, cond, ◌&&◌, List, [], ◌∷◌, map, length, take, drop, Some, None, Option, ◌==◌, nat_lt, slice_index_or, slice_range}
 use Rattle.tokens.specs.declared.Word.{Word}
 use Rattle.tokens.specs.declared.Word.TheVariants.{Plain}
 use Rattle.tokens.specs.declared.Delimiter.{Delimiter}
-use Rattle.tokens.specs.declared.Delimiter.TheVariants.{Paren, Bracket, Brace}
 use Rattle.tokens.specs.declared.Look.{Look}
 use Rattle.tokens.specs.declared.Look.TheVariants.{Name, Mark, Integer, Float, Literal, Lifetime, Open, Close}
 use Rattle.tokens.specs.declared.Token.{Token}
@@ -13,7 +12,7 @@ no_token = record { look = Name Plain; start = 0; len = 0 }
 
 -- the look of the token at i, in a level that ends at e
 abbrev pub look_at : List Token → ℕ → ℕ → Option Look
-look_at ts e i = cond (nat_lt i e) (Some (get_or ts i no_token).look) None
+look_at ts e i = cond (nat_lt i e) (Some (slice_index_or ts i no_token).look) None
 
 -- the character of a mark, 0 of anything else
 abbrev pub mark_of : Look → ℕ
@@ -37,11 +36,11 @@ joined_of (Open d n) = false
 joined_of (Close d) = false
 
 abbrev pub mark_at : List Token → ℕ → ℕ → ℕ
-mark_at ts e i = cond (nat_lt i e) (mark_of (get_or ts i no_token).look) 0
+mark_at ts e i = cond (nat_lt i e) (mark_of (slice_index_or ts i no_token).look) 0
 
 -- whether a mark at i is joined to the next one
 abbrev pub joined_at : List Token → ℕ → ℕ → Bool
-joined_at ts e i = cond (nat_lt i e) (joined_of (get_or ts i no_token).look) false
+joined_at ts e i = cond (nat_lt i e) (joined_of (slice_index_or ts i no_token).look) false
 
 -- two and three characters in a row, all but the last joined to the next
 abbrev pub two_at : List Token → ℕ → ℕ → ℕ → ℕ → Bool
@@ -61,19 +60,3 @@ field_of page t = record { look = t.look; bytes = take t.len (drop t.start page)
 -- the fields of a level from p to its end e
 abbrev pub level_of : List ℕ → List Token → ℕ → ℕ → List Field
 level_of page ts p e = map (field_of page) (slice_range ts p e)
-
--- the bytes of the value of the token at i, in a level that ends at e
-abbrev pub bytes_at : List ℕ → List Token → ℕ → ℕ → List ℕ
-bytes_at page ts e i = cond (nat_lt i e) (field_of page (slice_index_or ts i no_token)).bytes []
-
--- whether two delimiters are the same
-abbrev pub same_delimiter : Delimiter → Delimiter → Bool
-same_delimiter Paren Paren = true
-same_delimiter Paren Bracket = false
-same_delimiter Paren Brace = false
-same_delimiter Bracket Paren = false
-same_delimiter Bracket Bracket = true
-same_delimiter Bracket Brace = false
-same_delimiter Brace Paren = false
-same_delimiter Brace Bracket = false
-same_delimiter Brace Brace = true

@@ -1,6 +1,5 @@
 // Tokens of a page, and the window through which a level of them is read.
-ghost use Rattle.std.specs.Prelude.{◌≡◌};
-ghost use Rattle.tokens.specs.Looks.{same_delimiter};
+#![tactic(auto)]
 
 pub mod window;
 
@@ -46,18 +45,6 @@ pub enum Delimiter {
     Paren,
     Bracket,
     Brace,
-}
-
-// Whether two delimiters are the same.
-pub fn same_delimiter(a: Delimiter, b: Delimiter) -> bool
-    ensures { result ≡ same_delimiter a b }
-{
-    match (a, b) {
-        (Delimiter::Paren, Delimiter::Paren) => true,
-        (Delimiter::Bracket, Delimiter::Bracket) => true,
-        (Delimiter::Brace, Delimiter::Brace) => true,
-        _ => false,
-    }
 }
 
 // All that the reading of an expression may know of a token. What a name or a literal spells is for hosts alone.

@@ -1,4 +1,6 @@
 // The nodes of a rule, and the trees that they stand for.
+#![tactic(auto)]
+
 ghost use Rattle.std.specs.Prelude.{◌≡◌, ◌≤◌};
 ghost use Rattle.trees.specs.Kinds.{kind_number};
 

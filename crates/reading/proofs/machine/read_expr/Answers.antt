@@ -32,13 +32,13 @@ returns-in-Done g c =
       lent = (c.in-Done.ensures.nodes-lent.0 ∙ c.loop-next.invariant.6.0, c.in-Done.ensures.nodes-lent.1 ∙ c.loop-next.invariant.6.1);
     }
 
-pub returns-in-Refused : goal.returns-in-Refused
-returns-in-Refused g c =
-    let o = c.in-Refused.ensures.kept _ (items c.args.nodes.now) c.loop-next.invariant.0 in
+pub returns-in-Back : goal.returns-in-Back
+returns-in-Back g c =
+    let o = c.in-Back.ensures.kept _ (items c.args.nodes.now) c.loop-next.invariant.0 in
     record {
       value = sym (ap answer o.is);
       written = subst (λ (x : Outcome). Read x (items c.args.nodes.now) (items c.turn-once.new.nodes)) (sym o.is) (record { more = o.more; nodes = o.nodes });
-      room = c.in-Refused.ensures.nodes-room ∙ c.loop-next.invariant.4;
-      within = c.in-Refused.ensures.nodes-in;
-      lent = (c.in-Refused.ensures.nodes-lent.0 ∙ c.loop-next.invariant.6.0, c.in-Refused.ensures.nodes-lent.1 ∙ c.loop-next.invariant.6.1);
+      room = c.in-Back.ensures.nodes-room ∙ c.loop-next.invariant.4;
+      within = c.in-Back.ensures.nodes-in;
+      lent = (c.in-Back.ensures.nodes-lent.0 ∙ c.loop-next.invariant.6.0, c.in-Back.ensures.nodes-lent.1 ∙ c.loop-next.invariant.6.1);
     }

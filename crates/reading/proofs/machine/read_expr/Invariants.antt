@@ -1,14 +1,13 @@
 use Rattle.std.proofs.Common.{◌≡◌, ◌≤◌}
 use Rattle.lists.specs.Lists.{items, used, room, Lent}
 use Rattle.grammar.specs.Grammar.{expr, read_task}
-use Rattle.forms.specs.declared.Want.TheVariants as want
 use Rattle.reading.specs.Machine.{Sound, to_go}
 use Rattle.reading.proofs.machine.read_expr.Given as goal
 
 abbrev pub invariant-loop-next : goal.invariant-loop-next
 invariant-loop-next g l =
     Sound (g.H.Host.reading l.host) l.level.page.now l.level.tokens.now l.level.end
-    (read_task (g.H.Host.reading l.host) l.level.page.now l.level.tokens.now (expr want.Operand l.structs 0 l.level.place l.level.end))
+    (read_task (g.H.Host.reading l.host) l.level.page.now l.level.tokens.now (expr l.structs 0 l.level.place l.level.end))
     (items l.initial.nodes) (items l.nodes) (items l.frames) l.at
     × (used l.frames ≤ room l.frames)
     × (used l.nodes ≤ room l.nodes)
@@ -20,5 +19,5 @@ invariant-loop-next g l =
 abbrev pub decreases-loop-next : goal.decreases-loop-next
 decreases-loop-next g l =
     to_go (g.H.Host.reading l.host) l.level.page.now l.level.tokens.now l.level.end
-    (read_task (g.H.Host.reading l.host) l.level.page.now l.level.tokens.now (expr want.Operand l.structs 0 l.level.place l.level.end))
+    (read_task (g.H.Host.reading l.host) l.level.page.now l.level.tokens.now (expr l.structs 0 l.level.place l.level.end))
     (items l.frames) l.at
