@@ -81,7 +81,7 @@ fn group_head(level: Window, delimiter: Delimiter, tokens: usize) -> Head
 // A path, which the host reads.
 fn path_head<H: Host>(host: &H, level: Window) -> Head
     requires { level.place < level.end }
-    ensures { result ≡ path_head (reading host.now) level.entry.page.now level.entry.tokens.now level.entry.place level.entry.end }
+    ensures { result ≡ path_head (H.reading host.now) level.entry.page.now level.entry.tokens.now level.entry.place level.entry.end }
 {
     match host.read(Part::Path, level) {
         Ok(n) => Head::Leaf(Kind::Path, level.place() + n),
@@ -91,7 +91,7 @@ fn path_head<H: Host>(host: &H, level: Window) -> Head
 
 fn name_head<H: Host>(host: &H, level: Window, word: Word) -> Head
     requires { level.place < level.end }
-    ensures { result ≡ name_head (reading host.now) level.entry.page.now level.entry.tokens.now level.entry.place level.entry.end word }
+    ensures { result ≡ name_head (H.reading host.now) level.entry.page.now level.entry.tokens.now level.entry.place level.entry.end word }
 {
     match word {
         Word::Plain | Word::Raw | Word::SelfValue | Word::SelfType | Word::Super | Word::Crate =>
@@ -105,7 +105,7 @@ fn name_head<H: Host>(host: &H, level: Window, word: Word) -> Head
 // `* operand`, `! operand`, `- operand`, references, a path that begins with `<` or `::`, a range without a start
 fn mark_head<H: Host>(host: &H, level: Window, structs: bool, mark: char) -> Head
     requires here { level.place < level.end }
-    ensures { result ≡ mark_head (reading host.now) level.entry.page.now level.entry.tokens.now structs level.entry.place level.entry.end mark }
+    ensures { result ≡ mark_head (H.reading host.now) level.entry.page.now level.entry.tokens.now structs level.entry.place level.entry.end mark }
 {
     let place = level.place();
     match mark {
@@ -128,7 +128,7 @@ fn mark_head<H: Host>(host: &H, level: Window, structs: bool, mark: char) -> Hea
 
 // What stands at the window's place, where an operand is to begin.
 pub fn see_head<H: Host>(host: &H, level: Window, structs: bool) -> Head
-    ensures { result ≡ head_at (reading host.now) level.entry.page.now level.entry.tokens.now structs level.entry.place level.entry.end }
+    ensures { result ≡ head_at (H.reading host.now) level.entry.page.now level.entry.tokens.now structs level.entry.place level.entry.end }
 {
     let place = level.place();
     match level.look(place) {

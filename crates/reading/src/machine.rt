@@ -103,10 +103,10 @@ fn turn_once<H: Host>(
     frames: &mut Counted<Frame>,
     nodes: &mut Counted<Node>,
 ) -> Turn
-    requires ready { Ready (reading host.now) all.page.now all.tokens.now all.end (items nodes.old) (items frames.old) at (room frames.old) (room nodes.old) }
+    requires ready { Ready (H.reading host.now) all.page.now all.tokens.now all.end (items nodes.old) (items frames.old) at (room frames.old) (room nodes.old) }
     requires frames { used frames.old ≤ room frames.old }
     requires nodes { used nodes.old ≤ room nodes.old }
-    ensures kept { (o : Outcome) (S : List Node) → Sound (reading host.now) all.entry.page.now all.entry.tokens.now all.entry.end o S (items nodes.old) (items frames.old) at → Kept (reading host.now) all.entry.page.now all.entry.tokens.now all.entry.end o S (items frames.old) at (items nodes.new) (items frames.new) result }
+    ensures kept { (o : Outcome) (S : List Node) → Sound (H.reading host.now) all.entry.page.now all.entry.tokens.now all.entry.end o S (items nodes.old) (items frames.old) at → Kept (H.reading host.now) all.entry.page.now all.entry.tokens.now all.entry.end o S (items frames.old) at (items nodes.new) (items frames.new) result }
     ensures frames_in { used frames.new ≤ room frames.new }
     ensures nodes_in { used nodes.new ≤ room nodes.new }
     ensures frames_room { room frames.new ≡ room frames.old }
@@ -142,8 +142,8 @@ pub fn read_expr<H: Host>(
     requires inside { level.place ≤ level.end }
     requires stack { level.end ≤ length stack.old }
     requires nodes { used nodes.old + level.end ≤ room nodes.old }
-    ensures value { result ≡ answer (read_task (reading host.now) level.entry.page.now level.entry.tokens.now (expr structs 0 level.entry.place level.entry.end)) }
-    ensures written { Read (read_task (reading host.now) level.entry.page.now level.entry.tokens.now (expr structs 0 level.entry.place level.entry.end)) (items nodes.old) (items nodes.new) }
+    ensures value { result ≡ answer (read_task (H.reading host.now) level.entry.page.now level.entry.tokens.now (expr structs 0 level.entry.place level.entry.end)) }
+    ensures written { Read (read_task (H.reading host.now) level.entry.page.now level.entry.tokens.now (expr structs 0 level.entry.place level.entry.end)) (items nodes.old) (items nodes.new) }
     ensures room { room nodes.new ≡ room nodes.old }
     ensures within { used nodes.new ≤ room nodes.new }
     ensures lent { Lent nodes.old nodes.new }

@@ -206,7 +206,7 @@ fn go_on(at: Spot, from: usize, root: usize, count: usize, tail: Tail) -> Move
 fn read_type<H: Host>(host: &H, level: Window, at: Spot, count: usize) -> Move
     requires place { level.place ≡ at.place }
     requires end { level.end ≡ at.end }
-    ensures { result ≡ type_of count at (reading host.now Part.TypeName (level_of level.entry.page.now level.entry.tokens.now at.place at.end)) }
+    ensures { result ≡ type_of count at (H.reading host.now Part.TypeName (level_of level.entry.page.now level.entry.tokens.now at.place at.end)) }
 {
     match host.read(Part::TypeName, level) {
         Ok(n) => {
@@ -238,7 +238,7 @@ fn read_type<H: Host>(host: &H, level: Window, at: Spot, count: usize) -> Move
 // What is to be done at a spot, where the next node gets the number `count`.
 pub fn decide<H: Host>(host: &H, all: Window, at: Spot, count: usize) -> Move
     requires { at.end ≤ all.end }
-    ensures { result ≡ decide_of (reading host.now) all.entry.page.now all.entry.tokens.now count at }
+    ensures { result ≡ decide_of (H.reading host.now) all.entry.page.now all.entry.tokens.now count at }
 {
     let level = all.level(at.place, at.end);
     match at.left {

@@ -41,7 +41,7 @@ impl<'a, 'b> Sheet<'a, 'b> {
         structs: bool,
     ) -> Result<usize, Refusal>
         ensures room { room_of (state_of self.new) ≡ room_of (state_of self.old) }
-        ensures enters { Enters (entry_of (room_of (state_of self.old)) self.old.totals.nodes self.old.totals.rules (reading host.now) page.now (token_room tokens.old) structs) (state_of self.old) (state_of self.new) result }
+        ensures enters { Enters (entry_of (room_of (state_of self.old)) self.old.totals.nodes self.old.totals.rules (H.reading host.now) page.now (token_room tokens.old) structs) (state_of self.old) (state_of self.new) result }
         ensures tokens { tokens.new ≡ space_after page.now tokens.old }
     {
         let count = read_page(page, tokens)?;
@@ -119,9 +119,9 @@ impl<'a, 'b> Sheet<'a, 'b> {
         tokens: &mut [Token],
         structs: bool,
     ) -> Result<usize, Refusal>
-        ensures exact { Enters (entry_of (room_of (state_of self.old)) self.old.totals.nodes self.old.totals.rules (reading host.now) page.now (token_room tokens.old) structs) (state_of self.old) (state_of self.new) result }
+        ensures exact { Enters (entry_of (room_of (state_of self.old)) self.old.totals.nodes self.old.totals.rules (H.reading host.now) page.now (token_room tokens.old) structs) (state_of self.old) (state_of self.new) result }
         ensures tokens { tokens.new ≡ space_after page.now tokens.old }
-        ensures follows { Follows (state_of self.old) (call_enter (reading host.now) page.now tokens.old structs) (says_number result tokens.new) (state_of self.new) }
+        ensures follows { Follows (state_of self.old) (call_enter (H.reading host.now) page.now tokens.old structs) (says_number result tokens.new) (state_of self.new) }
     {
         self.enter_core(host, page, tokens, structs)
     }

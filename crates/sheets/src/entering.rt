@@ -27,8 +27,8 @@ fn read_nodes<H: Host>(
     requires inside { level.place ≤ level.end }
     requires frames { level.end ≤ length frames.old }
     requires nodes { count.old + level.end ≤ length nodes.old }
-    ensures value { result ≡ answer (read_task (reading host.now) level.entry.page.now level.entry.tokens.now (expr structs 0 level.entry.place level.entry.end)) }
-    ensures written { Read (read_task (reading host.now) level.entry.page.now level.entry.tokens.now (expr structs 0 level.entry.place level.entry.end)) (take count.old nodes.old) (take count.new nodes.new) }
+    ensures value { result ≡ answer (read_task (H.reading host.now) level.entry.page.now level.entry.tokens.now (expr structs 0 level.entry.place level.entry.end)) }
+    ensures written { Read (read_task (H.reading host.now) level.entry.page.now level.entry.tokens.now (expr structs 0 level.entry.place level.entry.end)) (take count.old nodes.old) (take count.new nodes.new) }
     ensures within { count.new ≤ length nodes.new }
 {
     let mut list = Counted::new(nodes, count);
@@ -47,7 +47,7 @@ pub fn read_rule<H: Host>(
     requires inside { level.place ≤ level.end }
     requires frames { level.end ≤ length frames.old }
     requires nodes { count.old + level.end ≤ length nodes.old }
-    ensures { Reads (whole level.entry.end (read_task (reading host.now) level.entry.page.now level.entry.tokens.now (expr structs 0 level.entry.place level.entry.end))) nodes.old count.old nodes.new count.new result }
+    ensures { Reads (whole level.entry.end (read_task (H.reading host.now) level.entry.page.now level.entry.tokens.now (expr structs 0 level.entry.place level.entry.end))) nodes.old count.old nodes.new count.new result }
 {
     let stop = read_nodes(host, level, structs, frames, nodes, count)?;
     if stop != level.end() {

@@ -11,18 +11,18 @@ front t c =
       | then-n-lt10 w ↦ front_none _ _ _ _ _ w.if-n-lt10.true w.last-is w.out-is
       | else-n-lt10 w ↦
           front_some _ _ _ _ _ w.if-n-lt10.false c.ranges.n.fits
-          (record { ends = w.last-is ∙ w.put-digits-last.ensures.value; holds = w.out-is ∙ w.put-digits-last.ensures.after })
+          (record { ends = w.last-is ∙ w.put_digits-last.ensures.value; holds = w.out-is ∙ w.put_digits-last.ensures.after })
     ]
 
-pub put-digits-last-requires : goal.put-digits-last-requires
-put-digits-last-requires t c =
+pub put_digits-last-requires : goal.put_digits-last-requires
+put_digits-last-requires t c =
     (omega arith, omega (arith, ap length (decimal_step c.args.n c.if-n-lt10.false c.ranges.n.fits), length-append (decimal (c.args.n / 10)) ((48 + c.args.n % 10) ∷ [])))
 
 pub bounds-out-last : goal.bounds-out-last
 bounds-out-last t c = omega (arith, front_length (front t c))
 
-pub overflow-add-result : goal.overflow-add-result
-overflow-add-result t c = record { fits = omega (arith, front_length (front t (goal.at.overflow-add-result t c).Joined-n-lt10)) }
+pub overflow_add-result : goal.overflow_add-result
+overflow_add-result t c = record { fits = omega (arith, front_length (front t (goal.at.overflow_add-result t c).Joined-n-lt10)) }
 
 pub returns : goal.returns
 returns t c =

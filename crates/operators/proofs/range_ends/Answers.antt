@@ -3,4 +3,4 @@ use Rattle.operators.proofs.range_ends.Goals as goal
 
 pub returns : goal.returns
 unfolding range_ends
-returns c = c.ends-range.ensures
+returns c = c.ends_range.ensures

@@ -8,8 +8,8 @@ pub returns : goal.returns
 unfolding sign_at
 returns c =
     record {
-      value = c.first-sign.ensures;
+      value = c.first_sign.ensures;
       good =
-          subst (λ (s : Sign). GoodSign c.args.i c.args.level.end s) (sym c.first-sign.ensures)
+          subst (λ (s : Sign). GoodSign c.args.i c.args.level.end s) (sym c.first_sign.ensures)
           (good_sign c.args.level.tokens.now c.args.level.end c.args.i);
     }

@@ -30,19 +30,19 @@ module _ (page : List ℕ) (space after : List Token) (place n : ℕ) (held : sp
       ∙ (ap (λ (x : Token). Ok (field_of page x).bytes) (sym same_token)
       ∙ ap (λ (k : ℕ). Ok (take k (drop t.start page))) len))
 
-pub overflow-add-result : goal.overflow-add-result
-overflow-add-result c =
-    let k = c.in-ok-count.ensures in
-    let p = on_page c.args.page.now c.read-page.new.space _ c.args.place c.in-ok-count.count k.records k.accepted.number (omega arith) in
+pub overflow_add-result : goal.overflow_add-result
+overflow_add-result c =
+    let k = c.in_ok-count.ensures in
+    let p = on_page c.args.page.now c.read_page.new.space _ c.args.place c.in_ok-count.count k.records k.accepted.number (omega arith) in
     omega arith
 
-pub slice-bounds-result-end : goal.slice-bounds-result-end
-slice-bounds-result-end c =
-    let k = c.in-ok-count.ensures in
-    let p = on_page c.args.page.now c.read-page.new.space _ c.args.place c.in-ok-count.count k.records k.accepted.number (omega arith) in
+pub slice_bounds-result-end : goal.slice_bounds-result-end
+slice_bounds-result-end c =
+    let k = c.in_ok-count.ensures in
+    let p = on_page c.args.page.now c.read_page.new.space _ c.args.place c.in_ok-count.count k.records k.accepted.number (omega arith) in
     omega arith
 
 pub returns : goal.returns
 returns c =
-    let k = c.in-ok-count.ensures in
-    found c.args.page.now c.read-page.new.space _ c.args.place c.in-ok-count.count k.records k.accepted.number (omega arith) (sym k.answer)
+    let k = c.in_ok-count.ensures in
+    found c.args.page.now c.read_page.new.space _ c.args.place c.in_ok-count.count k.records k.accepted.number (omega arith) (sym k.answer)

@@ -5,5 +5,5 @@ use Rattle.hosts.proofs.statement.alone_at.Goals as goal
 
 pub returns : goal.returns
 returns c =
-    let is = c.is-alone.ensures ∙ ap is_alone c.role-at.ensures in
+    let is = c.is_alone.ensures ∙ ap is_alone c.role_at.ensures in
     record { value = is; room = λ t. room (λ l. is_alone (first_role l)) refl _ _ _ (sym is ∙ t) }

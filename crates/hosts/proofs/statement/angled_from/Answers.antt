@@ -17,17 +17,17 @@ closed p r n l a some b = grind (arith, nat_tests)
 
 pub returns-then-next-at : goal.returns-then-next-at
 returns-then-next-at c =
-    let next = later _ _ type_length c.args.at _ _ 1 c.type-from-next.ensures refl in
-    simp (sym c.if-not-mark-at.ensures.value) (nothing _ _ _ _ _ next c.if-next-at.true)
+    let next = later _ _ type_length c.args.at _ _ 1 c.type_from-next.ensures refl in
+    simp (sym c.if-not-mark_at.ensures.value) (nothing _ _ _ _ _ next c.if-next-at.true)
 
-pub returns-then-mark-at : goal.returns-then-mark-at
-returns-then-mark-at c =
-    let next = later _ _ type_length c.args.at _ _ 1 c.type-from-next.ensures refl in
+pub returns-then-mark_at : goal.returns-then-mark_at
+returns-then-mark_at c =
+    let next = later _ _ type_length c.args.at _ _ 1 c.type_from-next.ensures refl in
     let mark = there _ _ (λ l. eqb (first_mark l) greater) _ _ 1 _ next in
-    simp (sym c.if-not-mark-at.ensures.value) (closed _ _ _ _ next c.if-next-at.false (sym (c.if-mark-at.ensures.value ∙ mark)))
+    simp (sym c.if-not-mark_at.ensures.value) (closed _ _ _ _ next c.if-next-at.false (sym (c.if-mark_at.ensures.value ∙ mark)))
 
-pub returns-else-mark-at : goal.returns-else-mark-at
-returns-else-mark-at c =
-    let next = later _ _ type_length c.args.at _ _ 1 c.type-from-next.ensures refl in
+pub returns-else-mark_at : goal.returns-else-mark_at
+returns-else-mark_at c =
+    let next = later _ _ type_length c.args.at _ _ 1 c.type_from-next.ensures refl in
     let mark = there _ _ (λ l. eqb (first_mark l) greater) _ _ 1 _ next in
-    simp (sym c.if-not-mark-at.ensures.value) (unclosed _ _ _ _ next (sym (c.if-mark-at.ensures.value ∙ mark)))
+    simp (sym c.if-not-mark_at.ensures.value) (unclosed _ _ _ _ next (sym (c.if-mark_at.ensures.value ∙ mark)))

@@ -5,5 +5,5 @@ use Rattle.hosts.proofs.statement.block_word_at.Goals as goal
 
 pub returns : goal.returns
 returns c =
-    let is = c.is-block-word.ensures ∙ ap is_block_word c.role-at.ensures in
+    let is = c.is_block_word.ensures ∙ ap is_block_word c.role_at.ensures in
     record { value = is; room = λ t. room (λ l. is_block_word (first_role l)) refl _ _ _ (sym is ∙ t) }

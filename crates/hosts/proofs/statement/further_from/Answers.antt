@@ -4,11 +4,11 @@ use Rattle.hosts.proofs.statement.further_from.Goals as goal
 
 pub loop-w-preserved : goal.loop-w-preserved
 loop-w-preserved c =
-    c.loop-w.invariant ∙ further_again _ _ c.loop-w.next c.loop-w-test.ensures.value c.if-segment-at.ensures.value
+    c.loop-w.invariant ∙ further_again _ _ c.loop-w.next c.loop-w-test.ensures.value c.if-segment_at.ensures.value
 
-pub returns-else-segment-at : goal.returns-else-segment-at
-returns-else-segment-at c =
-    omega (arith, c.loop-w.invariant, further_ends _ _ c.loop-w.next c.if-segment-at.ensures.value)
+pub returns-else-segment_at : goal.returns-else-segment_at
+returns-else-segment_at c =
+    omega (arith, c.loop-w.invariant, further_ends _ _ c.loop-w.next c.if-segment_at.ensures.value)
 
 pub returns-after-loop-w : goal.returns-after-loop-w
 returns-after-loop-w c =

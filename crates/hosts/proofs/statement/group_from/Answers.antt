@@ -23,13 +23,13 @@ pub returns-then-len-end : goal.returns-then-len-end
 returns-then-len-end c =
     let first = sym c.in-Some.is ∙ (c.look.ensures ∙ look_first _ _ _ c.args.w.inside) in
     let len = length_looks _ c.args.at _ c.args.w.inside in
-    ap (λ n. c.args.at + n) (fitting _ _ _ _ first c.open-length-len.ensures (omega (arith, len, c.end.ensures)))
+    ap (λ n. c.args.at + n) (fitting _ _ _ _ first c.open_length-len.ensures (omega (arith, len, c.end.ensures)))
 
 pub returns-else-len-end : goal.returns-else-len-end
 returns-else-len-end c =
     let first = sym c.in-Some.is ∙ (c.look.ensures ∙ look_first _ _ _ c.args.w.inside) in
     let len = length_looks _ c.args.at _ c.args.w.inside in
-    omega (arith, past _ _ _ _ first c.open-length-len.ensures (omega (arith, len, c.end.ensures)))
+    omega (arith, past _ _ _ _ first c.open_length-len.ensures (omega (arith, len, c.end.ensures)))
 
 pub returns-in-None : goal.returns-in-None
 returns-in-None c =

@@ -6,10 +6,10 @@ use Rattle.hosts.proofs.statement.keyword_from.Goals as goal
 
 pub returns-then-next-at : goal.returns-then-next-at
 returns-then-next-at c =
-    let next = later _ _ (group_length Brace) c.args.at _ _ 1 c.group-from-next.ensures refl in
-    simp (sym c.if-block-word-at.ensures.value) (behind_some _ _ _ _ _ refl next c.if-next-at.true)
+    let next = later _ _ (group_length Brace) c.args.at _ _ 1 c.group_from-next.ensures refl in
+    simp (sym c.if-block_word_at.ensures.value) (behind_some _ _ _ _ _ refl next c.if-next-at.true)
 
 pub returns-else-next-at : goal.returns-else-next-at
 returns-else-next-at c =
-    let next = later _ _ (group_length Brace) c.args.at _ _ 1 c.group-from-next.ensures refl in
-    simp (sym c.if-block-word-at.ensures.value) (behind_none _ _ _ _ _ next c.if-next-at.false)
+    let next = later _ _ (group_length Brace) c.args.at _ _ 1 c.group_from-next.ensures refl in
+    simp (sym c.if-block_word_at.ensures.value) (behind_none _ _ _ _ _ next c.if-next-at.false)

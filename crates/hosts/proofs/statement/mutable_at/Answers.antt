@@ -5,5 +5,5 @@ use Rattle.hosts.proofs.statement.mutable_at.Goals as goal
 
 pub returns : goal.returns
 returns c =
-    let is = c.is-mutable.ensures ∙ ap is_mutable c.role-at.ensures in
+    let is = c.is_mutable.ensures ∙ ap is_mutable c.role_at.ensures in
     record { value = is; room = λ t. room (λ l. is_mutable (first_role l)) refl _ _ _ (sym is ∙ t) }

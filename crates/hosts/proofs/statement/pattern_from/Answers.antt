@@ -11,6 +11,6 @@ with_group_lem p q r n l a b some = grind (arith, nat_tests)
 
 pub returns-then-next-at : goal.returns-then-next-at
 returns-then-next-at c =
-    let next = c.path-from-next.ensures in
-    let end = later _ _ (group_length Paren) c.args.at _ _ _ c.group-from.ensures next in
-    simp (sym c.if-alone-at.ensures.value) (with_group_lem _ _ _ _ _ next end c.if-next-at.true)
+    let next = c.path_from-next.ensures in
+    let end = later _ _ (group_length Paren) c.args.at _ _ _ c.group_from.ensures next in
+    simp (sym c.if-alone_at.ensures.value) (with_group_lem _ _ _ _ _ next end c.if-next-at.true)

@@ -15,7 +15,7 @@ unknown [] e = refl
 unknown (b ∷ l) e = cc
 
 pub returns-in-Some : goal.returns-in-Some
-returns-in-Some c = c.look-role.ensures ∙ known _ _ (sym c.in-Some.is ∙ (c.look.ensures ∙ look_first _ _ _ c.args.w.inside))
+returns-in-Some c = c.look_role.ensures ∙ known _ _ (sym c.in-Some.is ∙ (c.look.ensures ∙ look_first _ _ _ c.args.w.inside))
 
 pub returns-in-None : goal.returns-in-None
 returns-in-None c = unknown _ (sym c.in-None.is ∙ (c.look.ensures ∙ look_first _ _ _ c.args.w.inside))

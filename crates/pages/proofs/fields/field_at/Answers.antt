@@ -5,4 +5,4 @@ use Rattle.pages.proofs.fields.field_at.Goals as goal
 
 pub returns : goal.returns
 unfolding field_at
-returns c = c.read-field.ensures ∙ ap (headed c.args.at) (take_rest c.args.page.now c.args.at)
+returns c = c.read_field.ensures ∙ ap (headed c.args.at) (take_rest c.args.page.now c.args.at)

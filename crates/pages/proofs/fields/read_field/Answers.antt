@@ -14,6 +14,6 @@ pub returns : goal.returns
 returns c =
     let long : 3 ≤ length c.args.bytes.now = omega (arith, leb-true, ltb-true, ltb-false) in
     let e : c.from-len.result ≡ 256 * get_or c.args.bytes.now 1 0 + get_or c.args.bytes.now 2 0 = omega arith in
-    c.read-value.ensures
-    ∙ (ap (λ t. tagged c.args.at t c.from-len.result (take (length c.args.bytes.now - 3) (drop 3 c.args.bytes.now))) c.tag-of.ensures
+    c.read_value.ensures
+    ∙ (ap (λ t. tagged c.args.at t c.from-len.result (take (length c.args.bytes.now - 3) (drop 3 c.args.bytes.now))) c.tag_of.ensures
     ∙ head c.args.at c.from-len.result c.args.bytes.now long e)

@@ -12,9 +12,9 @@ pub returns : goal.returns
 returns c =
     let n : ℕ = c.args.len in
     let e : n - 0 ≡ n = omega arith in
-    let low : (limits c.in-Some.tag).0 ≤ n = subst (λ (p : ℕ × ℕ). p.0 ≤ n) c.limits-of-least.ensures c.if-len-least.false in
-    let high : n ≤ (limits c.in-Some.tag).1 = subst (λ (p : ℕ × ℕ). n ≤ p.1) c.limits-of-least.ensures (omega arith) in
-    c.token-of.ensures
-    ∙ (ap (looked c.args.at n) (c.look-of.ensures ∙ ap (λ k. look_of c.in-Some.tag (take k c.args.rest.now)) e)
+    let low : (limits c.in-Some.tag).0 ≤ n = subst (λ (p : ℕ × ℕ). p.0 ≤ n) c.limits_of-least.ensures c.if-len-least.false in
+    let high : n ≤ (limits c.in-Some.tag).1 = subst (λ (p : ℕ × ℕ). n ≤ p.1) c.limits_of-least.ensures (omega arith) in
+    c.token_of.ensures
+    ∙ (ap (looked c.args.at n) (c.look_of.ensures ∙ ap (λ k. look_of c.in-Some.tag (take k c.args.rest.now)) e)
     ∙ (allowed c.args.at n c.in-Some.tag c.args.rest.now low high (omega arith)
     ∙ ap (λ t. tagged c.args.at t n c.args.rest.now) (sym c.in-Some.is)))

@@ -5,4 +5,4 @@ use Rattle.pages.proofs.values.is_fraction.Goals as goal
 
 pub returns-in-46 : goal.returns-in-46
 returns-in-46 c =
-    at_first is_fraction (every digit) (λ b. eqb b 46) (λ x xs. refl) c.args.bytes.now _ (omega (arith, leb-true, ltb-true, ltb-false)) (eq-eqb _ _ (omega (arith, eqb-true))) c.all-digits.ensures
+    at_first is_fraction (every digit) (λ b. eqb b 46) (λ x xs. refl) c.args.bytes.now _ (omega (arith, leb-true, ltb-true, ltb-false)) (eq-eqb _ _ (omega (arith, eqb-true))) c.all_digits.ensures

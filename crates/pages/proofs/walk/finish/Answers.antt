@@ -6,8 +6,8 @@ use Rattle.tokens.specs.Looks.{no_token}
 use Rattle.tokens.specs.declared.Token.{Token}
 use Rattle.pages.proofs.walk.finish.Goals as goal
 
-pub overflow-sub-result : goal.overflow-sub-result
-overflow-sub-result c =
+pub overflow_sub-result : goal.overflow_sub-result
+overflow_sub-result c =
     let l = c.args.list.now in
     let p : ℕ = c.in-Some.place in
     let known = MatchOption-at_some (Unit {0}) (λ q. (q < used l) × (3 ≤ (get_or (items l) q no_token).start)) p c.in-Some.is c.requires.opened in

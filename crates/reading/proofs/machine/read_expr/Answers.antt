@@ -26,10 +26,10 @@ returns-in-Done g c =
     let o = c.in-Done.ensures.kept _ (items c.args.nodes.now) c.loop-next.invariant.0 in
     record {
       value = sym (ap answer o.is);
-      written = subst (λ (x : Outcome). Read x (items c.args.nodes.now) (items c.turn-once.new.nodes)) (sym o.is) (record { nodes = o.nodes; few = o.few });
-      room = c.in-Done.ensures.nodes-room ∙ c.loop-next.invariant.4;
-      within = c.in-Done.ensures.nodes-in;
-      lent = (c.in-Done.ensures.nodes-lent.0 ∙ c.loop-next.invariant.6.0, c.in-Done.ensures.nodes-lent.1 ∙ c.loop-next.invariant.6.1);
+      written = subst (λ (x : Outcome). Read x (items c.args.nodes.now) (items c.turn_once.new.nodes)) (sym o.is) (record { nodes = o.nodes; few = o.few });
+      room = c.in-Done.ensures.nodes_room ∙ c.loop-next.invariant.4;
+      within = c.in-Done.ensures.nodes_in;
+      lent = (c.in-Done.ensures.nodes_lent.0 ∙ c.loop-next.invariant.6.0, c.in-Done.ensures.nodes_lent.1 ∙ c.loop-next.invariant.6.1);
     }
 
 pub returns-in-Back : goal.returns-in-Back
@@ -37,8 +37,8 @@ returns-in-Back g c =
     let o = c.in-Back.ensures.kept _ (items c.args.nodes.now) c.loop-next.invariant.0 in
     record {
       value = sym (ap answer o.is);
-      written = subst (λ (x : Outcome). Read x (items c.args.nodes.now) (items c.turn-once.new.nodes)) (sym o.is) (record { more = o.more; nodes = o.nodes });
-      room = c.in-Back.ensures.nodes-room ∙ c.loop-next.invariant.4;
-      within = c.in-Back.ensures.nodes-in;
-      lent = (c.in-Back.ensures.nodes-lent.0 ∙ c.loop-next.invariant.6.0, c.in-Back.ensures.nodes-lent.1 ∙ c.loop-next.invariant.6.1);
+      written = subst (λ (x : Outcome). Read x (items c.args.nodes.now) (items c.turn_once.new.nodes)) (sym o.is) (record { more = o.more; nodes = o.nodes });
+      room = c.in-Back.ensures.nodes_room ∙ c.loop-next.invariant.4;
+      within = c.in-Back.ensures.nodes_in;
+      lent = (c.in-Back.ensures.nodes_lent.0 ∙ c.loop-next.invariant.6.0, c.in-Back.ensures.nodes_lent.1 ∙ c.loop-next.invariant.6.1);
     }

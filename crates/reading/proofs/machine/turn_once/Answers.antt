@@ -49,8 +49,8 @@ apply-requires g c =
       nodes = omega (arith, c.attach-links.ensures.count, c.attach-links.ensures.room, c.requires.nodes);
     }
 
-pub apply-requires-in-default : goal.apply-requires-in-default
-apply-requires-in-default g c =
+pub apply-requires-in_default : goal.apply-requires-in_default
+apply-requires-in_default g c =
     let n : ℕ = c.count.result in
     let move = decide_of (g.H.Host.reading c.args.host.now) c.args.all.page.now c.args.all.tokens.now n c.args.at in
     let space : RoomFor move (length (items c.args.frames.now)) (room c.args.frames.now) (length (items c.args.nodes.now)) (room c.args.nodes.now) =
@@ -68,12 +68,12 @@ pub returns-in-None : goal.returns-in-None
 returns-in-None g c =
     record {
       kept = λ o S x. turn_done (g.H.Host.reading c.args.host.now) (g.met.H.Host.lawful c.args.host.now) c.args.all.page.now c.args.all.tokens.now c.args.all.end o S c.count.result c.args.at c.in-Ended.root (sym c.in-Ended.ensures) _ _ (items c.pop.new.self) x (counted c.args.frames.now c.requires.frames ∙ c.in-None.ensures.cases.0);
-      frames-in = omega (arith, c.in-None.ensures.cases.1);
-      nodes-in = c.requires.nodes;
-      frames-room = ap length c.in-None.ensures.space;
-      nodes-room = refl;
-      frames-lent = c.in-None.ensures.lender;
-      nodes-lent = (refl, refl);
+      frames_in = omega (arith, c.in-None.ensures.cases.1);
+      nodes_in = c.requires.nodes;
+      frames_room = ap length c.in-None.ensures.space;
+      nodes_room = refl;
+      frames_lent = c.in-None.ensures.lender;
+      nodes_lent = (refl, refl);
     }
 
 pub returns-in-Some : goal.returns-in-Some
@@ -85,24 +85,24 @@ returns-in-Some g c =
           c.in-Some.ensures.cases.0 c.attach-links.ensures.items c.attach-links.ensures.value (c.count-in-Some.ensures ∙ sym (counted c.attach-links.new.nodes held))
           (subst (λ (h : Frame). Applied (close_of c.args.all.tokens.now c.count-in-Some.result h c.args.at) (items c.pop.new.self) (items c.apply.new.frames) (items c.attach-links.new.nodes) (items c.apply.new.nodes) c.apply.result) c.relinked.ensures
           (subst (λ (m : Move). Applied m (items c.pop.new.self) (items c.apply.new.frames) (items c.attach-links.new.nodes) (items c.apply.new.nodes) c.apply.result) c.close.ensures c.apply.ensures.applied));
-      frames-in = c.apply.ensures.frames-in;
-      nodes-in = c.apply.ensures.nodes-in;
-      frames-room = c.apply.ensures.frames-room ∙ ap length c.in-Some.ensures.space;
-      nodes-room = c.apply.ensures.nodes-room ∙ c.attach-links.ensures.room;
-      frames-lent = (c.apply.ensures.frames-lent.0 ∙ c.in-Some.ensures.lender.0, c.apply.ensures.frames-lent.1 ∙ c.in-Some.ensures.lender.1);
-      nodes-lent = (c.apply.ensures.nodes-lent.0 ∙ c.attach-links.ensures.lent.0, c.apply.ensures.nodes-lent.1 ∙ c.attach-links.ensures.lent.1);
+      frames_in = c.apply.ensures.frames_in;
+      nodes_in = c.apply.ensures.nodes_in;
+      frames_room = c.apply.ensures.frames_room ∙ ap length c.in-Some.ensures.space;
+      nodes_room = c.apply.ensures.nodes_room ∙ c.attach-links.ensures.room;
+      frames_lent = (c.apply.ensures.frames_lent.0 ∙ c.in-Some.ensures.lender.0, c.apply.ensures.frames_lent.1 ∙ c.in-Some.ensures.lender.1);
+      nodes_lent = (c.apply.ensures.nodes_lent.0 ∙ c.attach-links.ensures.lent.0, c.apply.ensures.nodes_lent.1 ∙ c.attach-links.ensures.lent.1);
     }
 
-pub returns-in-default : goal.returns-in-default
-returns-in-default g c =
+pub returns-in_default : goal.returns-in_default
+returns-in_default g c =
     record {
       kept = λ o S x.
-          turn_step (g.H.Host.reading c.args.host.now) (g.met.H.Host.lawful c.args.host.now) c.args.all.page.now c.args.all.tokens.now c.args.all.end o S c.count.result c.args.at (λ y z. c.in-default.not-Ended y (c.decide.ensures ∙ z)) _ _ _ _ c.apply-in-default.result (c.count.ensures ∙ sym (counted c.args.nodes.now c.requires.nodes)) x
-          (subst (λ (m : Move). Applied m (items c.args.frames.now) (items c.apply-in-default.new.frames) (items c.args.nodes.now) (items c.apply-in-default.new.nodes) c.apply-in-default.result) c.decide.ensures c.apply-in-default.ensures.applied);
-      frames-in = c.apply-in-default.ensures.frames-in;
-      nodes-in = c.apply-in-default.ensures.nodes-in;
-      frames-room = c.apply-in-default.ensures.frames-room;
-      nodes-room = c.apply-in-default.ensures.nodes-room;
-      frames-lent = c.apply-in-default.ensures.frames-lent;
-      nodes-lent = c.apply-in-default.ensures.nodes-lent;
+          turn_step (g.H.Host.reading c.args.host.now) (g.met.H.Host.lawful c.args.host.now) c.args.all.page.now c.args.all.tokens.now c.args.all.end o S c.count.result c.args.at (λ y z. c.in_default.not-Ended y (c.decide.ensures ∙ z)) _ _ _ _ c.apply-in_default.result (c.count.ensures ∙ sym (counted c.args.nodes.now c.requires.nodes)) x
+          (subst (λ (m : Move). Applied m (items c.args.frames.now) (items c.apply-in_default.new.frames) (items c.args.nodes.now) (items c.apply-in_default.new.nodes) c.apply-in_default.result) c.decide.ensures c.apply-in_default.ensures.applied);
+      frames_in = c.apply-in_default.ensures.frames_in;
+      nodes_in = c.apply-in_default.ensures.nodes_in;
+      frames_room = c.apply-in_default.ensures.frames_room;
+      nodes_room = c.apply-in_default.ensures.nodes_room;
+      frames_lent = c.apply-in_default.ensures.frames_lent;
+      nodes_lent = c.apply-in_default.ensures.nodes_lent;
     }

@@ -4,8 +4,8 @@ use Rattle.refusals.specs.declared.Part.TheVariants as part
 use Rattle.grammar.proofs.Levels.{taken}
 use Rattle.reading.proofs.moves.read_type.Goals as goal
 
-pub overflow-add-to : goal.overflow-add-to
-overflow-add-to g c =
+pub overflow_add-to : goal.overflow_add-to
+overflow_add-to g c =
     let l = c.args.level in
     let t = taken l.page.now l.tokens.now l.place l.end c.in-Ok.n _ c.in-Ok.ensures (g.met.H.Host.lawful c.args.host.now part.TypeName (level_of l.page.now l.tokens.now l.place l.end)) in
     omega (arith, t.1, c.requires.place, c.ranges.level)

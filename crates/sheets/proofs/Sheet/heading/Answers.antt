@@ -5,6 +5,6 @@ use Rattle.sheets.proofs.Sheet.heading.Goals as goal
 pub returns : goal.returns
 returns c =
     record {
-      value = c.write-heading.ensures;
-      follows = heading_follows (state_of c.args.self.now) c.args.out.now (c.write-heading.result, c.write-heading.new.out) c.write-heading.ensures;
+      value = c.write_heading.ensures;
+      follows = heading_follows (state_of c.args.self.now) c.args.out.now (c.write_heading.result, c.write_heading.new.out) c.write_heading.ensures;
     }

@@ -11,5 +11,5 @@ returns c =
       lender = (refl, refl);
     }
 
-pub invariant-of-result : goal.invariant-of-result
-invariant-of-result c = (empty_held (state c.args.nodes.now c.args.rules.now (record { nodes = 0; rules = 0 })) refl refl, tt)
+pub invariant_of-result : goal.invariant_of-result
+invariant_of-result c = (empty_held (state c.args.nodes.now c.args.rules.now (record { nodes = 0; rules = 0 })) refl refl, tt)

@@ -14,14 +14,14 @@ bounds-nodes-i c =
     let fit = nodes_fit (state_of c.args.self.now) c.args.self.now.held in
     omega (arith, fit, c.if-i-self.false)
 
-pub offset-bounds-nodes-i : goal.offset-bounds-nodes-i
-offset-bounds-nodes-i c =
+pub offset_bounds-nodes-i : goal.offset_bounds-nodes-i
+offset_bounds-nodes-i c =
     let fit = nodes_fit (state_of c.args.self.now) c.args.self.now.held in
     let few : c.args.i < 4096 = omega (arith, fit, c.if-i-self.false) in
     search rules
 
-pub node-line-requires : goal.node-line-requires
-node-line-requires c =
+pub node_line-requires : goal.node_line-requires
+node_line-requires c =
     let s = state_of c.args.self.now in
     let fit = nodes_fit s c.args.self.now.held in
     let spans = spans_fit s c.args.self.now.held c.args.i in
@@ -36,6 +36,6 @@ node-line-requires c =
 pub returns : goal.returns
 returns c =
     let n = get_or c.args.self.now.nodes.now c.args.i no_node in
-    c.node-line.ensures
+    c.node_line.ensures
     ∙ ap (λ (k : ℕ). written (line_bytes c.args.i k n.label.op n.label.from n.label.to) c.args.out.now) c.number.ensures.value
     ∙ sym (a_line (state_of c.args.self.now) c.args.i c.args.out.now c.args.self.now.held c.if-i-self.false)

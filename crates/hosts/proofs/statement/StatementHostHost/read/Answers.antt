@@ -21,6 +21,6 @@ place_read part page ts p e at next a n =
 pub returns : goal.returns
 unfolding statement_reading
 returns c =
-    let len = place_read c.args.part c.args.level.page.now c.args.level.tokens.now _ _ _ _ c.place-at.ensures c.run-from.ensures in
+    let len = place_read c.args.part c.args.level.page.now c.args.level.tokens.now _ _ _ _ c.place-at.ensures c.run_from.ensures in
     let is = c.answered.ensures ∙ ap answer len in
     record { value = is; longest = subst (LongestRun c.args.part _) (sym is) (longest_run c.args.part _) }
