@@ -62,8 +62,9 @@ returns g c =
     let more : c.append.new.count ≡ s.totals.rules + 1 = c.append.ensures.count fits ∙ ap (λ n. n + 1) old in
     let rules : take c.append.new.count c.append.new.space ≡ rules_of s ++ c.in_ok-rule.rule ∷ [] = c.append.ensures.pushed fits ∙ ap (λ n. take n c.args.self.now.rules.now ++ c.in_ok-rule.rule ∷ []) old in
     let read = whole (length (tokens_of (token_room space) page)) (read_expr host page (tokens_of (token_room space) page) c.args.structs) in
+    let t = state c.read_rule.new.nodes c.append.new.space c.drop-guard-2.new.self.0 in
     record {
-      room = search rules;
+      room = room_kept s t (search rules) (search rules);
       enters = in_accepted s host page (token_room space) c.args.structs o.clean o.room o.free _ c.new-guard.result.totals.now.rules c.in_ok-rule.rule
           (subst (λ n. Reads read s.nodes s.totals.nodes c.read_rule.new.nodes n (Ok c.in_ok-rule.rule)) (sym (ap (λ t. t.nodes) put)) reads)
           (ap (λ t. take t.rules c.append.new.space) put ∙ rules) (ap (λ t. t.rules) put ∙ more) old;
@@ -81,11 +82,11 @@ invariant_of-self-in_err-rule g c =
     let reads : Reads (whole (length (tokens_of (token_room space) page)) (read_expr host page (tokens_of (token_room space) page) c.args.structs)) s.nodes s.totals.nodes c.read_rule.new.nodes c.read_rule.new.count (Err c.in_err-rule.field-0.0) =
     level_reads host page c.new-level.result.page.now (tokens_of (token_room space) page) c.new-level.result.tokens.now c.args.structs c.new-level.result.place c.new-level.result.end _ _ _ _ _ _
     c.new-level.ensures.page (c.new-level.ensures.tokens ∙ o.front) c.new-level.ensures.place (c.new-level.ensures.end ∙ ap length o.front) (ap (λ t. t.nodes) c.new-guard.ensures.made.2) c.in_err-rule.ensures in
-    let t = state c.read_rule.new.nodes c.args.self.now.rules.now c.drop-guard.new.self.0 in (
-      still_held s t host law page space c.args.structs (Err c.in_err-rule.field-0.0) (room_kept s t (search rules) refl)
-          (in_refused s host page (token_room space) c.args.structs o.clean o.room o.free t _ c.in_err-rule.field-0.0 c.read_rule.new.count reads refl (search rules) refl) c.args.self.now.held,
-      tt,
-    )
+    let t = state c.read_rule.new.nodes c.args.self.now.rules.now c.drop-guard.new.self.0 in
+    record {
+      held = still_held s t host law page space c.args.structs (Err c.in_err-rule.field-0.0) (room_kept s t (search rules) refl)
+          (in_refused s host page (token_room space) c.args.structs o.clean o.room o.free t _ c.in_err-rule.field-0.0 c.read_rule.new.count reads refl (search rules) refl) c.args.self.now.held;
+    }
 
 pub invariant_of-self-2 : goal.invariant_of-self-2
 invariant_of-self-2 g c =
@@ -104,10 +105,10 @@ invariant_of-self-2 g c =
     let more : c.append.new.count ≡ s.totals.rules + 1 = c.append.ensures.count fits ∙ ap (λ n. n + 1) old in
     let rules : take c.append.new.count c.append.new.space ≡ rules_of s ++ c.in_ok-rule.rule ∷ [] = c.append.ensures.pushed fits ∙ ap (λ n. take n c.args.self.now.rules.now ++ c.in_ok-rule.rule ∷ []) old in
     let read = whole (length (tokens_of (token_room space) page)) (read_expr host page (tokens_of (token_room space) page) c.args.structs) in
-    let t = state c.read_rule.new.nodes c.append.new.space c.drop-guard-2.new.self.0 in (
-      still_held s t host law page space c.args.structs (Ok c.new-guard.result.totals.now.rules) (room_kept s t (search rules) (search rules))
+    let t = state c.read_rule.new.nodes c.append.new.space c.drop-guard-2.new.self.0 in
+    record {
+      held = still_held s t host law page space c.args.structs (Ok c.new-guard.result.totals.now.rules) (room_kept s t (search rules) (search rules))
           (in_accepted s host page (token_room space) c.args.structs o.clean o.room o.free t c.new-guard.result.totals.now.rules c.in_ok-rule.rule
           (subst (λ n. Reads read s.nodes s.totals.nodes c.read_rule.new.nodes n (Ok c.in_ok-rule.rule)) (sym (ap (λ t. t.nodes) put)) reads)
-          (ap (λ t. take t.rules c.append.new.space) put ∙ rules) (ap (λ t. t.rules) put ∙ more) old) c.args.self.now.held,
-      tt,
-    )
+          (ap (λ t. take t.rules c.append.new.space) put ∙ rules) (ap (λ t. t.rules) put ∙ more) old) c.args.self.now.held;
+    }

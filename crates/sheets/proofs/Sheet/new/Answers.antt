@@ -12,4 +12,4 @@ returns c =
     }
 
 pub invariant_of-result : goal.invariant_of-result
-invariant_of-result c = (empty_held (state c.args.nodes.now c.args.rules.now (record { nodes = 0; rules = 0 })) refl refl, tt)
+invariant_of-result c = record { held = empty_held (state c.args.nodes.now c.args.rules.now (record { nodes = 0; rules = 0 })) refl refl }
