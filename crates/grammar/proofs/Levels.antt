@@ -1,9 +1,9 @@
 -- What a lawful host takes stays within its level. Assumes nothing.
-use Rattle.std.proofs.Common.{◌≡◌, ℕ, ◌+◌, ◌-◌, ◌<◌, ◌≤◌, List, map, length, take, drop, Ok, Err, Result, sym, refl, ◌∙◌, subst, arith, length-take}
+use Rattle.std.proofs.Common.{◌≡◌, ℕ, ◌+◌, ◌-◌, ◌≤◌, List, length, take, drop, Ok, Result, sym, subst, arith, length-take}
 use Rattle.std.proofs.lemmas.List.{length-map}
 use Rattle.refusals.specs.declared.Denial.{Denial}
 use Rattle.tokens.specs.declared.Token.{Token}
-use Rattle.tokens.specs.Looks.{Field, field_of, level_of}
+use Rattle.tokens.specs.Looks.{field_of, level_of}
 use Rattle.hosts.specs.Lawful.{Lawful}
 
 pub level_length : (page : List ℕ) (ts : List Token) (p e : ℕ) → length (level_of page ts p e) ≤ e - p

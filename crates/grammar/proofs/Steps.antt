@@ -1,5 +1,5 @@
 -- What stands at a place goes on from it, and ends inside the level. Assumes nothing.
-use Rattle.std.proofs.Common.{◌≡◌, ℕ, suc, ◌+◌, ◌-◌, ◌<◌, ◌≤◌, Bool, true, false, cond, not, ◌&&◌, ◌||◌, eqb, ltb, leb, List, get_or, Some, None, Ok, Err, Option, Result, sym, refl, ap, ◌∙◌, arith, ltb-true, eqb-true, leb-true}
+use Rattle.std.proofs.Common.{◌≡◌, ℕ, suc, ◌+◌, ◌-◌, ◌<◌, ◌≤◌, Bool, true, false, cond, not, ◌&&◌, ◌||◌, eqb, ltb, leb, List, get_or, Ok, Err, Option, Result, refl, arith, ltb-true, eqb-true, leb-true}
 use Rattle.std.proofs.lemmas.Bool.{cond_both}
 use Rattle.refusals.specs.declared.Part.{Part}
 use Rattle.refusals.specs.declared.Part.TheVariants as part
@@ -11,7 +11,7 @@ use Rattle.tokens.specs.declared.Delimiter.{Delimiter}
 use Rattle.tokens.specs.declared.Delimiter.TheVariants.{Paren, Bracket, Brace}
 use Rattle.tokens.specs.declared.Look.{Look}
 use Rattle.tokens.specs.declared.Look.TheVariants as look
-use Rattle.tokens.specs.Looks.{Field, no_token, mark_of, look_at, mark_at, joined_at, two_at, three_at, level_of}
+use Rattle.tokens.specs.Looks.{Field, no_token, mark_of, mark_at, joined_at, two_at, three_at, level_of}
 use Rattle.tokens.specs.Words.{word_at, spelled_by}
 use Rattle.operators.specs.declared.Infix.{Infix}
 use Rattle.operators.specs.declared.Infix.TheVariants as infix_op

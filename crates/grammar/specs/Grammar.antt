@@ -1,12 +1,11 @@
 -- The reading of an expression, by recursive descent: a tree with the place where it stops, or the first refusal. Assumes nothing.
-use Rattle.std.specs.Prelude.{ℕ, ◌+◌, ◌-◌, Bool, true, false, cond, not, ◌&&◌, List, [], ◌∷◌, ◌++◌, length, Some, None, Ok, Err, Option, Result, ◌==◌}
+use Rattle.std.specs.Prelude.{ℕ, ◌+◌, ◌-◌, Bool, true, false, cond, not, List, length, Some, None, Ok, Err, Option, Result, ◌==◌}
 use Rattle.refusals.specs.declared.Part.{Part}
 use Rattle.refusals.specs.declared.Part.TheVariants as part
 use Rattle.refusals.specs.declared.Denial.{Denial}
 use Rattle.refusals.specs.declared.Refusal.{Refusal}
 use Rattle.refusals.specs.declared.Refusal.TheVariants as refusal
 use Rattle.tokens.specs.declared.Token.{Token}
-use Rattle.tokens.specs.declared.Delimiter.{Delimiter}
 use Rattle.tokens.specs.declared.Delimiter.TheVariants.{Paren, Bracket, Brace}
 use Rattle.tokens.specs.declared.Look.{Look}
 use Rattle.tokens.specs.declared.Look.TheVariants as look
@@ -17,9 +16,8 @@ use Rattle.operators.specs.Ranks.{rank_of, rank_of_code, above_rank}
 use Rattle.trees.specs.declared.Kind.{Kind}
 use Rattle.trees.specs.declared.Kind.TheVariants as kind
 use Rattle.trees.specs.declared.Label.{Label}
-use Rattle.trees.specs.declared.Node.{Node}
 use Rattle.trees.specs.Kinds.{kind_number}
-use Rattle.trees.specs.Layout.{Tree, Trees, branch, none, ◌then◌, label_of, lay}
+use Rattle.trees.specs.Layout.{Tree, Trees, branch, none, ◌then◌, label_of}
 use Rattle.grammar.specs.Knot.{tied}
 use Rattle.grammar.specs.Heads.{head_at}
 use Rattle.grammar.specs.Tails.{tail_at}

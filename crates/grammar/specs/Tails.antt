@@ -1,6 +1,5 @@
 -- What follows an operand: an operator that takes it, the end of what is read here, or a refusal. Assumes nothing.
-use Rattle.std.specs.Prelude.{ℕ, ◌+◌, Bool, true, false, cond, not, ◌&&◌, ◌||◌, List, ◌==◌, nat_lt}
-use Rattle.refusals.specs.declared.Refusal.{Refusal}
+use Rattle.std.specs.Prelude.{ℕ, ◌+◌, Bool, cond, not, ◌&&◌, ◌||◌, List, ◌==◌, nat_lt}
 use Rattle.refusals.specs.declared.Refusal.TheVariants as refusal
 use Rattle.tokens.specs.declared.Token.{Token}
 use Rattle.operators.specs.declared.Infix.{Infix}

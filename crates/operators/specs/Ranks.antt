@@ -1,5 +1,5 @@
 -- How strongly infix operators bind, and which operands their ranks allow. Assumes nothing.
-use Rattle.std.specs.Prelude.{ℕ, suc, ◌+◌, Bool, true, false, cond, ◌&&◌, ◌||◌, List, [], ◌∷◌, ◌==◌, nat_le, nat_lt}
+use Rattle.std.specs.Prelude.{ℕ, suc, ◌+◌, Bool, true, cond, ◌&&◌, ◌||◌, List, [], ◌∷◌, ◌==◌, nat_le, nat_lt}
 use Rattle.operators.specs.declared.Infix.{Infix}
 use Rattle.operators.specs.declared.Infix.TheVariants.{Binary, Assign, Range, Cast}
 

@@ -1,8 +1,8 @@
 -- A name is compared with the spellings of its own length alone. Assumes nothing.
-use Rattle.std.proofs.Common.{◌≡◌, ℕ, ◌<◌, ◌≤◌, Bool, true, false, cond, ◌&&◌, T, eqb, leb, List, [], ◌∷◌, length, sym, refl, ap, ◌∙◌, subst, ⊎_elim, arith}
+use Rattle.std.proofs.Common.{◌≡◌, ℕ, ◌≤◌, Bool, true, false, cond, ◌&&◌, eqb, leb, List, [], ◌∷◌, length, sym, refl, ap, ◌∙◌, subst, ⊎_elim}
 use Rattle.std.specs.Str.{bytes_eq}
 use Rattle.std.proofs.lemmas.Slice.Eq.{bytes_eq-Decides}
-use Rattle.std.proofs.lemmas.Bool.{eqb-true, eq-eqb, ne_eqb, leb-true, cond-false, cases_Bool, and_parts, both_ways}
+use Rattle.std.proofs.lemmas.Bool.{eq-eqb, ne_eqb, leb-true, cond-false, cases_Bool, and_parts, both_ways}
 use Rattle.tokens.specs.declared.Word.{Word}
 use Rattle.tokens.specs.declared.Word.TheVariants.{Plain}
 use Rattle.pages.specs.Words.{Spelling, spelled, spellings, word_of, of_length}

@@ -1,11 +1,10 @@
 -- One field more, from the facts that the code has. Assumes nothing.
-use Rattle.std.proofs.Common.{◌≡◌, ℕ, ◌+◌, ◌-◌, ◌<◌, ◌≤◌, Bool, true, false, cond, ltb, List, [], ◌∷◌, ◌++◌, length, get_or, set, Some, Ok, Err, Option, Result, sym, refl, ap, ◌∙◌, arith}
+use Rattle.std.proofs.Common.{◌≡◌, ℕ, ◌+◌, ◌-◌, ◌<◌, Bool, true, false, cond, List, [], ◌∷◌, ◌++◌, length, get_or, set, Some, Ok, Err, Option, sym, refl, ap, ◌∙◌, arith}
 use Rattle.std.proofs.lemmas.List.{get_or_read, length-set, set-append_left}
 use Rattle.std.proofs.lemmas.Bool.{cond-true, lt-ltb}
 use Rattle.refusals.specs.declared.Refusal.{Refusal}
 use Rattle.tokens.specs.Looks.{no_token}
 use Rattle.tokens.specs.declared.Delimiter.{Delimiter}
-use Rattle.tokens.specs.declared.Look.{Look}
 use Rattle.tokens.specs.declared.Look.TheVariants.{Open}
 use Rattle.tokens.specs.declared.Token.{Token}
 use Rattle.pages.specs.Steps.{Held, same_delimiter, relooked, around, added, closed, closing}

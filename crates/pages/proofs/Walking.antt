@@ -1,5 +1,5 @@
 -- The walk over a page, from one field to the next. Assumes nothing.
-use Rattle.std.proofs.Common.{◌≡◌, ℕ, zero, suc, ◌+◌, ◌-◌, ◌<◌, ◌≤◌, min, ltb, List, [], ◌++◌, length, get_or, take, drop, IfSome, IfOk, Some, None, Ok, Err, Option, Result, sym, refl, ap, ◌∙◌, subst, arith}
+use Rattle.std.proofs.Common.{◌≡◌, ℕ, zero, suc, ◌+◌, ◌<◌, ◌≤◌, min, List, [], ◌++◌, length, get_or, take, drop, IfSome, IfOk, Some, None, Ok, Err, Option, Result, sym, refl, ap, ◌∙◌, subst, arith}
 use Rattle.std.proofs.ByRecursion.{All-get_or}
 use Rattle.std.proofs.lemmas.List.{drop-drop, length-take-le, take-append-drop}
 use Rattle.std.proofs.lemmas.Bool.{cond-true, cond-false, lt-ltb, le-ltb}
@@ -10,7 +10,7 @@ use Rattle.refusals.specs.declared.Refusal.{Refusal}
 use Rattle.tokens.specs.Looks.{no_token}
 use Rattle.tokens.specs.declared.Token.{Token}
 use Rattle.pages.specs.Fields.{field_at}
-use Rattle.pages.specs.Pages.{Outcome, refused, still_open, ended, onward, entered, walk, outcome, tokens_of, fault_of, answer, page_answer, Accepted}
+use Rattle.pages.specs.Pages.{Outcome, refused, ended, onward, entered, walk, outcome, tokens_of, fault_of, answer, page_answer, Accepted}
 use Rattle.pages.specs.Steps.{Held, step}
 use Rattle.pages.specs.Taken.{held, Stepped}
 use Rattle.pages.proofs.Keeping.{few, all_placed, nested}

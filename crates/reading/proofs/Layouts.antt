@@ -1,9 +1,9 @@
 -- A child that is attached changes one link. Assumes nothing.
-use Rattle.std.proofs.Common.{◌≡◌, ℕ, ◌+◌, ◌-◌, ◌<◌, ◌≤◌, List, [], ◌∷◌, ◌++◌, length, get_or, set, Some, None, Option, sym, refl, ap, ◌∙◌, subst, append_assoc, append-nil, arith, length-append}
+use Rattle.std.proofs.Common.{◌≡◌, ℕ, ◌+◌, ◌-◌, List, [], ◌∷◌, ◌++◌, length, get_or, set, Some, None, Option, sym, refl, ap, ◌∙◌, append_assoc, arith, length-append}
 use Rattle.std.proofs.lemmas.List.{set_at, get_or-append_right}
 use Rattle.trees.specs.declared.Label.{Label}
 use Rattle.trees.specs.declared.Node.{Node}
-use Rattle.trees.specs.Layout.{Tree, Trees, branch, none, ◌then◌, node, size, sizes, root_at, first_at, lay, lays}
+use Rattle.trees.specs.Layout.{Trees, branch, none, ◌then◌, node, sizes, root_at, first_at, lays}
 use Rattle.trees.proofs.Sizes.{lays_length}
 use Rattle.reading.specs.Machine.{last_at, with_next, no_node, link_to}
 

@@ -1,5 +1,5 @@
 -- What the definition of reading says at a place, one step deep. Assumes nothing.
-use Rattle.std.proofs.Common.{◌≡◌, ℕ, ◌+◌, ◌-◌, ◌<◌, ◌≤◌, Bool, true, false, cond, eqb, ltb, List, [], ◌∷◌, Result, sym, refl, ap, ◌∙◌, arith, lt-ltb}
+use Rattle.std.proofs.Common.{◌≡◌, ℕ, ◌+◌, ◌-◌, ◌<◌, ◌≤◌, Bool, true, cond, eqb, List, [], ◌∷◌, Result, refl, ap, ◌∙◌, arith, lt-ltb}
 use Rattle.std.proofs.lemmas.Bool.{cond-true}
 use Rattle.refusals.specs.declared.Part.{Part}
 use Rattle.refusals.specs.declared.Part.TheVariants as part
@@ -14,18 +14,17 @@ use Rattle.trees.specs.declared.Kind.{Kind}
 use Rattle.trees.specs.declared.Kind.TheVariants as kind
 use Rattle.trees.specs.Layout.{Tree, Trees, branch, none, ◌then◌, label_of}
 use Rattle.grammar.specs.declared.Head.{Head}
-use Rattle.grammar.specs.declared.Head.TheVariants.{Leaf, Prefix, Group, NoHead}
+use Rattle.grammar.specs.declared.Head.TheVariants.{Leaf, Prefix, Group}
 use Rattle.grammar.specs.declared.Tail.{Tail}
-use Rattle.grammar.specs.declared.Tail.TheVariants.{Takes, Endless, Casts, Stop, NoTail}
+use Rattle.grammar.specs.declared.Tail.TheVariants.{Takes, Endless, Casts}
 use Rattle.grammar.specs.Knot.{below}
 use Rattle.grammar.specs.Heads.{head_at}
 use Rattle.grammar.specs.Tails.{tail_at}
-use Rattle.grammar.specs.Grammar.{label, kind_of, op_of, tree_rank, Outcome, took, refused, and_then, Task, expr, climb, items, left, part_at, go_on, after_item, from_head, from_tail, from_items, grammar, read_task}
+use Rattle.grammar.specs.Grammar.{label, tree_rank, Outcome, refused, and_then, Task, expr, climb, items, left, part_at, from_head, from_tail, grammar, read_task}
 use Rattle.grammar.proofs.Knots.{unfolds, asks}
 use Rattle.reading.specs.Moves.{frame, no_links}
 use Rattle.reading.specs.Machine.{Wait, again, after_by, resume}
 use Rattle.reading.specs.declared.frames.Links.{Links}
-use Rattle.reading.specs.declared.frames.Job.{Job}
 use Rattle.reading.specs.declared.frames.Job.TheVariants as job
 use Rattle.reading.specs.declared.frames.Frame.{Frame}
 

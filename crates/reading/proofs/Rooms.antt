@@ -1,5 +1,5 @@
 -- A list's count is the length of what it holds. Assumes nothing.
-use Rattle.std.proofs.Common.{◌≡◌, ℕ, ◌≤◌, List, ◌++◌, length, ap, ◌∙◌, arith, length-take}
+use Rattle.std.proofs.Common.{◌≡◌, ◌≤◌, length, arith, length-take}
 use Rattle.lists.specs.Lists.{items, used, room}
 use Rattle.lists.specs.declared.Counted.{Counted}
 

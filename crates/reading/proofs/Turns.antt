@@ -1,5 +1,5 @@
 -- A turn of the loop keeps what the frames and the spot stand for. Assumes nothing.
-use Rattle.std.proofs.Common.{◌≡◌, ℕ, ◌+◌, ◌-◌, ◌*◌, ◌<◌, ◌≤◌, Bool, true, false, cond, eqb, List, [], ◌∷◌, ◌++◌, length, get_or, Some, None, Ok, Err, Option, Result, sym, refl, ap, ◌∙◌, subst, append_assoc, append-nil, add-zero, arith, length-append, eqb-true}
+use Rattle.std.proofs.Common.{◌≡◌, ℕ, ◌+◌, ◌-◌, ◌*◌, ◌<◌, ◌≤◌, Bool, true, false, cond, eqb, List, [], ◌∷◌, ◌++◌, length, get_or, Some, None, Ok, Err, Option, Result, sym, refl, ap, ◌∙◌, subst, append_assoc, append-nil, add-zero, arith, length-append}
 use borrow.Author.Tests.{eqb-false}
 use Rattle.std.proofs.lemmas.List.{same_from_push, length_push, length-set}
 use Rattle.std.proofs.lemmas.Bool.{cond_both}
@@ -15,7 +15,7 @@ use Rattle.trees.specs.declared.Kind.{Kind}
 use Rattle.trees.specs.declared.Kind.TheVariants as kind
 use Rattle.trees.specs.declared.Label.{Label}
 use Rattle.trees.specs.declared.Node.{Node}
-use Rattle.trees.specs.Layout.{Tree, Trees, branch, none, ◌then◌, label_of, node, sizes, root_at, first_at, lay, lays}
+use Rattle.trees.specs.Layout.{Tree, Trees, branch, none, ◌then◌, node, sizes, root_at, first_at, lay, lays}
 use Rattle.hosts.specs.Lawful.{Lawful}
 use Rattle.grammar.specs.declared.Head.{Head}
 use Rattle.grammar.specs.declared.Head.TheVariants.{Leaf, Prefix, Group, NoHead}
@@ -23,11 +23,11 @@ use Rattle.grammar.specs.declared.Tail.{Tail}
 use Rattle.grammar.specs.declared.Tail.TheVariants.{Takes, Endless, Casts, Stop, NoTail}
 use Rattle.grammar.specs.Heads.{head_at}
 use Rattle.grammar.specs.Tails.{tail_at}
-use Rattle.grammar.specs.Grammar.{label, kind_of, op_of, rank_by, tree_rank, Outcome, took, refused, and_then, Task, expr, climb, items, left, comma_at, cast_followed, part_by, part_at, go_on, after_item}
+use Rattle.grammar.specs.Grammar.{label, kind_of, op_of, rank_by, tree_rank, Outcome, took, refused, and_then, expr, climb, items, comma_at, cast_followed, part_by, part_at, go_on}
 use Rattle.grammar.proofs.Levels.{taken}
 use Rattle.grammar.proofs.Steps.{GoodHead, GoodTail, good_head, good_tail}
 use Rattle.reading.specs.Moves.{spot, frame, no_links, one_link, made_of, finished_of, begin_of, go_of, type_of, decide_of, shut_of, next_item_of, item_of, close_by, close_of, relinked_of}
-use Rattle.reading.specs.Machine.{with_next, no_node, link_to, LastIn, attached, last_at, links_at, Wait, flat, spilled, Linked, nodes_by, FitBy, again, after_by, resume, ahead_by, Stack, Sound, to_go, Going, Over, Turned, Kept, RoomFor, Applied}
+use Rattle.reading.specs.Machine.{with_next, no_node, link_to, LastIn, attached, last_at, links_at, Wait, flat, spilled, Linked, nodes_by, FitBy, again, after_by, resume, ahead_by, Stack, Sound, to_go, Kept, RoomFor, Applied}
 use Rattle.trees.proofs.Sizes.{lays_length}
 use Rattle.reading.proofs.Layouts.{relink}
 use Rattle.reading.proofs.Means.{wait, R, again_is, resume_refused, at_head, leaf_means, prefix_means, group_means, at_tail, takes_means, endless_means, casts_means, items_by, items_means}
@@ -41,7 +41,7 @@ use Rattle.reading.specs.declared.frames.Spot.{Spot}
 use Rattle.reading.specs.declared.frames.Move.{Move}
 use Rattle.reading.specs.declared.frames.Move.TheVariants.{Push, Emit, Ended, Refuse}
 use Rattle.reading.specs.declared.frames.Turn.{Turn}
-use Rattle.reading.specs.declared.frames.Turn.TheVariants.{Go, Done, Back}
+use Rattle.reading.specs.declared.frames.Turn.TheVariants.{Done}
 
 abbrev dummy : Tree
 dummy = branch (label kind.Path 0 0 0) none

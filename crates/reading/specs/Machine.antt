@@ -1,5 +1,5 @@
 -- What the frames and the spot of the loop stand for. Assumes nothing.
-use Rattle.std.specs.Prelude.{◌≡◌, ℕ, ◌+◌, ◌-◌, ◌*◌, ◌<◌, ◌≤◌, Bool, cond, List, [], ◌∷◌, ◌++◌, length, Some, None, Option, Result, nat_lt, slice_index_or, slice_set}
+use Rattle.std.specs.Prelude.{◌≡◌, ℕ, ◌+◌, ◌-◌, ◌*◌, ◌<◌, ◌≤◌, cond, List, [], ◌∷◌, ◌++◌, length, Some, None, Option, Result, nat_lt, slice_index_or, slice_set}
 use Rattle.refusals.specs.declared.Part.{Part}
 use Rattle.refusals.specs.declared.Part.TheVariants as part
 use Rattle.refusals.specs.declared.Denial.{Denial}
@@ -7,11 +7,10 @@ use Rattle.refusals.specs.declared.Refusal.{Refusal}
 use Rattle.refusals.specs.declared.Refusal.TheVariants as refusal
 use Rattle.tokens.specs.declared.Token.{Token}
 use Rattle.tokens.specs.Looks.{Field}
-use Rattle.trees.specs.declared.Kind.{Kind}
 use Rattle.trees.specs.declared.Kind.TheVariants as kind
 use Rattle.trees.specs.declared.Node.{Node}
-use Rattle.trees.specs.Layout.{Tree, Trees, branch, none, ◌then◌, label_of, node, sizes, root_at, first_or, first_at, lay, lays}
-use Rattle.grammar.specs.Grammar.{label, kind_of, op_of, tree_rank, Outcome, took, refused, and_then, Task, expr, climb, items, left, cast_followed, part_at, go_on, after_item, read_task}
+use Rattle.trees.specs.Layout.{Tree, Trees, none, ◌then◌, label_of, node, sizes, root_at, first_or, first_at, lay, lays}
+use Rattle.grammar.specs.Grammar.{label, kind_of, op_of, tree_rank, Outcome, took, refused, and_then, Task, expr, climb, left, cast_followed, part_at, go_on, after_item, read_task}
 use Rattle.reading.specs.Moves.{shut_of}
 use Rattle.reading.specs.declared.frames.Links.{Links}
 use Rattle.reading.specs.declared.frames.Job.{Job}

@@ -1,5 +1,5 @@
 -- What the loop does at a spot, and when what was begun last has ended. Assumes nothing.
-use Rattle.std.specs.Prelude.{ℕ, ◌+◌, Bool, true, false, cond, List, Some, None, Ok, Err, Option, Result, ◌==◌}
+use Rattle.std.specs.Prelude.{ℕ, ◌+◌, Bool, true, cond, List, Some, None, Ok, Err, Option, Result, ◌==◌}
 use Rattle.refusals.specs.declared.Part.{Part}
 use Rattle.refusals.specs.declared.Part.TheVariants as part
 use Rattle.refusals.specs.declared.Denial.{Denial}

@@ -1,15 +1,14 @@
 -- From what the calls below do to what an entry does to a sheet. Assumes nothing.
-use Rattle.std.proofs.Common.{◌≡◌, ℕ, ◌+◌, ◌-◌, ◌<◌, ◌≤◌, min, Bool, true, false, cond, ltb, leb, List, [], ◌∷◌, ◌++◌, length, take, Some, None, Ok, Err, Option, Result, sym, refl, ap, ◌∙◌, subst, arith, length-append, length-take, take_all, lt-ltb, le-leb}
+use Rattle.std.proofs.Common.{◌≡◌, ℕ, ◌+◌, ◌-◌, ◌<◌, ◌≤◌, min, Bool, cond, ltb, List, [], ◌∷◌, ◌++◌, length, take, Some, None, Ok, Err, Option, Result, sym, refl, ap, ◌∙◌, subst, arith, take_all, lt-ltb, le-leb}
 use Rattle.std.proofs.lemmas.List.{take-append-le}
 use Rattle.refusals.specs.declared.Refusal.{Refusal}
 use Rattle.refusals.specs.declared.Refusal.TheVariants.{SheetFull}
 use Rattle.tokens.specs.declared.Token.{Token}
 use Rattle.trees.specs.declared.Node.{Node}
-use Rattle.trees.specs.Layout.{size, lay}
 use Rattle.pages.specs.Pages.{tokens_of, fault_of, answer, page_answer}
-use Rattle.grammar.specs.Grammar.{Outcome, expr, read_task, read_expr}
+use Rattle.grammar.specs.Grammar.{expr, read_task, read_expr}
 use Rattle.sheets.specs.declared.records.Rule.{Rule}
-use Rattle.sheets.specs.Model.{Reading, Entry, Room, rule_at, whole, fitting, unless_fault, token_room, entry_of, space_after}
+use Rattle.sheets.specs.Model.{Reading, Entry, rule_at, whole, fitting, unless_fault, token_room, entry_of, space_after}
 use Rattle.sheets.specs.States.{State, room_of, nodes_of, rules_of, Enters, Reads}
 
 pub room_kept : (s t : State) → length t.nodes ≡ length s.nodes → length t.rules ≡ length s.rules → room_of t ≡ room_of s

@@ -1,5 +1,5 @@
 -- Each call follows the model, and a sheet always stands for some model. Assumes nothing.
-use Rattle.std.proofs.Common.{◌≡◌, ℕ, ◌+◌, ◌-◌, ◌<◌, ◌≤◌, min, Bool, ltb, List, [], ◌∷◌, ◌++◌, length, get_or, take, None, Ok, Err, Result, sym, refl, ap, ◌∙◌, subst, arith, length-append, length-take, get_or-take, le-ltb, lt-ltb}
+use Rattle.std.proofs.Common.{◌≡◌, ℕ, ◌+◌, ◌<◌, ◌≤◌, Bool, ltb, List, [], ◌∷◌, ◌++◌, length, get_or, take, None, Ok, Err, Result, sym, refl, ap, ◌∙◌, subst, arith, length-append, length-take, get_or-take, le-ltb, lt-ltb}
 use mathlib.Core.Logic.{∥∥₁_map, ∥∥₁_elim}
 use native.Mathlib.Bridge.{le_prop}
 use Rattle.std.proofs.lemmas.Bool.{cond-true, cond-false}
@@ -9,12 +9,12 @@ use Rattle.refusals.specs.declared.Refusal.TheVariants.{NotThere}
 use Rattle.tokens.specs.declared.Token.{Token}
 use Rattle.tokens.specs.Looks.{Field}
 use Rattle.trees.specs.declared.Node.{Node}
-use Rattle.trees.specs.Layout.{size, lay}
+use Rattle.trees.specs.Layout.{lay}
 use Rattle.hosts.specs.Lawful.{Lawful}
 use Rattle.lines.specs.Lines.{heading_bytes, written}
 use Rattle.sheets.specs.declared.records.Rule.{Rule}
-use Rattle.sheets.specs.Model.{Reading, Model, Entry, Room, sizes, rule_at, nodes_from, rules_from, entry_of, token_room, space_after, numbered, added, no_node, node_bytes, line_of, next_of, call_enter, call_totals, call_heading, call_line, says_number, says_totals, says_bytes}
-use Rattle.sheets.specs.States.{State, room_of, nodes_of, rules_of, Short, Holds, Follows, Enters}
+use Rattle.sheets.specs.Model.{Reading, Model, Entry, Room, sizes, rule_at, entry_of, token_room, space_after, numbered, added, no_node, node_bytes, line_of, next_of, call_enter, call_totals, call_heading, call_line, says_number, says_totals, says_bytes}
+use Rattle.sheets.specs.States.{State, room_of, nodes_of, Short, Holds, Follows, Enters}
 use Rattle.sheets.proofs.Models.{sizes_more, nodes_more, rules_more}
 use Rattle.sheets.proofs.TokenRooms.{tokens_fit}
 use Rattle.sheets.proofs.Shorts.{short_append, short_at, Taken, taken_in}

@@ -1,5 +1,5 @@
 -- One tree more at the end of a model. Assumes nothing.
-use Rattle.std.proofs.Common.{◌≡◌, ℕ, ◌+◌, List, [], ◌∷◌, ◌++◌, None, sym, refl, ap, ◌∙◌, append_assoc, append-nil, arith}
+use Rattle.std.proofs.Common.{◌≡◌, ℕ, ◌+◌, List, [], ◌∷◌, ◌++◌, None, sym, ap, ◌∙◌, append_assoc, append-nil, arith}
 use Rattle.trees.specs.declared.Node.{Node}
 use Rattle.trees.specs.Layout.{size, lay}
 use Rattle.sheets.specs.declared.records.Rule.{Rule}

@@ -1,16 +1,16 @@
 -- From what the loop writes to what a rule is. Assumes nothing.
-use Rattle.std.proofs.Common.{◌≡◌, ℕ, ◌+◌, ◌-◌, ◌<◌, ◌≤◌, Bool, true, false, cond, eqb, List, [], ◌∷◌, ◌++◌, length, take, None, Ok, Err, Result, sym, refl, ap, ◌∙◌, subst, arith, length-append, length-take, take_all, eq-eqb, eqb-true}
+use Rattle.std.proofs.Common.{◌≡◌, ℕ, ◌+◌, ◌-◌, ◌≤◌, Bool, true, false, cond, eqb, List, ◌++◌, length, take, None, Ok, Err, Result, sym, refl, ap, ◌∙◌, subst, arith, length-append, length-take, take_all, eq-eqb, eqb-true}
 use Rattle.std.proofs.lemmas.List.{take-take, take-append-le}
 use Rattle.std.proofs.lemmas.Bool.{cond-true}
 use Rattle.refusals.specs.declared.Refusal.{Refusal}
 use Rattle.refusals.specs.declared.Refusal.TheVariants.{LeftOver}
 use Rattle.trees.specs.declared.Node.{Node}
-use Rattle.trees.specs.Layout.{Tree, Trees, branch, size, sizes, root_at, lay}
+use Rattle.trees.specs.Layout.{Tree, branch, size, root_at, lay}
 use Rattle.trees.proofs.Sizes.{lay_length}
 use Rattle.grammar.specs.Grammar.{Outcome, took, refused, answer}
-use Rattle.reading.specs.Machine.{Read, Written, Undone}
+use Rattle.reading.specs.Machine.{Read, Written}
 use Rattle.sheets.specs.declared.records.Rule.{Rule}
-use Rattle.sheets.specs.Model.{Entry, rule_at, whole}
+use Rattle.sheets.specs.Model.{Entry, whole}
 use Rattle.sheets.specs.States.{Reads}
 
 -- what stood in front stands there still

@@ -1,16 +1,15 @@
 -- A page never has more tokens than the room that is given to them. Assumes nothing.
-use Rattle.std.proofs.Common.{◌≡◌, ℕ, zero, suc, ◌+◌, ◌-◌, ◌<◌, ◌≤◌, Bool, true, false, cond, ltb, List, [], ◌∷◌, ◌++◌, length, get_or, Some, None, Ok, Err, Option, Result, sym, refl, ap, arith, length-append, length-set, ltb-true}
+use Rattle.std.proofs.Common.{ℕ, zero, suc, ◌+◌, ◌≤◌, ltb, List, [], ◌∷◌, length, get_or, Some, None, Ok, Err, Option, Result, arith, length-append, ltb-true}
 use Rattle.std.proofs.lemmas.Bool.{cond_both}
 use Rattle.refusals.specs.declared.Refusal.{Refusal}
-use Rattle.refusals.specs.declared.Refusal.TheVariants.{Unbalanced, TooManyTokens}
 use Rattle.tokens.specs.Looks.{no_token}
 use Rattle.tokens.specs.declared.Token.{Token}
 use Rattle.tokens.specs.declared.Delimiter.{Delimiter}
 use Rattle.tokens.specs.declared.Look.{Look}
 use Rattle.tokens.specs.declared.Look.TheVariants as look
 use Rattle.pages.specs.Fields.{field_at}
-use Rattle.pages.specs.Steps.{Held, same_delimiter, around, relooked, added, closed, closing, opening, step_by, step}
-use Rattle.pages.specs.Pages.{Outcome, ended, onward, entered, walk, nothing, outcome, tokens_of}
+use Rattle.pages.specs.Steps.{Held, same_delimiter, around, added, closed, closing, step_by, step}
+use Rattle.pages.specs.Pages.{Outcome, onward, entered, walk, nothing, outcome, tokens_of}
 
 module _ (room at : ℕ) where
   abbrev Fits : Result Held Refusal → Type 0

@@ -1,8 +1,6 @@
 -- What stands at a place of a level: looks, marks, and operators spelled in several marks. Assumes nothing.
-use Rattle.std.specs.Prelude.{ℕ, ◌+◌, ◌-◌, Bool, true, false, cond, ◌&&◌, List, [], ◌∷◌, map, length, take, drop, Some, None, Option, ◌==◌, nat_lt, slice_index_or, slice_range}
-use Rattle.tokens.specs.declared.Word.{Word}
+use Rattle.std.specs.Prelude.{ℕ, ◌+◌, Bool, false, cond, ◌&&◌, List, map, take, drop, Some, None, Option, ◌==◌, nat_lt, slice_index_or, slice_range}
 use Rattle.tokens.specs.declared.Word.TheVariants.{Plain}
-use Rattle.tokens.specs.declared.Delimiter.{Delimiter}
 use Rattle.tokens.specs.declared.Look.{Look}
 use Rattle.tokens.specs.declared.Look.TheVariants.{Name, Mark, Integer, Float, Literal, Lifetime, Open, Close}
 use Rattle.tokens.specs.declared.Token.{Token}

@@ -1,5 +1,5 @@
 -- Words by their numbers, to tell one from another, and which word is spelled at a place. Assumes nothing.
-use Rattle.std.specs.Prelude.{ℕ, Bool, true, false, cond, List, ◌==◌, nat_lt, slice_index_or}
+use Rattle.std.specs.Prelude.{ℕ, Bool, false, cond, List, ◌==◌, nat_lt, slice_index_or}
 use Rattle.tokens.specs.Looks.{no_token}
 use Rattle.tokens.specs.declared.Word.{Word}
 use Rattle.tokens.specs.declared.Word.TheVariants as word

@@ -1,5 +1,5 @@
 -- A tree is laid out in as many nodes as it has. Assumes nothing.
-use Rattle.std.proofs.Common.{◌≡◌, ℕ, ◌+◌, [], ◌∷◌, ◌++◌, length, Some, None, Option, refl, arith, length-append}
+use Rattle.std.proofs.Common.{◌≡◌, ℕ, ◌+◌, [], ◌∷◌, length, Some, None, Option, refl, arith, length-append}
 use Rattle.trees.specs.Layout.{Tree, Trees, branch, none, ◌then◌, node, size, sizes, root_at, first_at, lay, lays}
 
 mutual

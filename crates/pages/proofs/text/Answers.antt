@@ -1,8 +1,7 @@
-use Rattle.std.proofs.Common.{◌≡◌, ℕ, ◌+◌, ◌-◌, ◌<◌, ◌≤◌, ltb, List, ◌++◌, length, get_or, take, drop, Ok, Err, Result, sym, ap, ◌∙◌, subst, arith}
+use Rattle.std.proofs.Common.{◌≡◌, ℕ, ◌+◌, ◌-◌, ◌<◌, ltb, List, ◌++◌, length, get_or, take, drop, Ok, sym, ap, ◌∙◌, subst, arith}
 use Rattle.std.proofs.ByRecursion.{All-get_or}
 use Rattle.std.proofs.lemmas.List.{get_or_append_left}
 use Rattle.std.proofs.lemmas.Bool.{cond-true, lt-ltb}
-use Rattle.refusals.specs.declared.Refusal.{Refusal}
 use Rattle.tokens.specs.Looks.{no_token, field_of}
 use Rattle.tokens.specs.declared.Token.{Token}
 use Rattle.pages.specs.Pages.{tokens_of, page_answer, text_by, text_of}

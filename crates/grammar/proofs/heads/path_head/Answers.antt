@@ -1,4 +1,4 @@
-use Rattle.std.proofs.Common.{sym, ◌∙◌, arith}
+use Rattle.std.proofs.Common.{arith}
 use Rattle.tokens.specs.Looks.{level_of}
 use Rattle.refusals.specs.declared.Part.TheVariants as part
 use Rattle.grammar.proofs.Levels.{taken}

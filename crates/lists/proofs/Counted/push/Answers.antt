@@ -1,4 +1,4 @@
-use Rattle.std.proofs.Common.{◌+◌, ◌<◌, ◌≤◌, length, sym, refl, ◌∙◌, arith, drop-set-lt, rules}
+use Rattle.std.proofs.Common.{◌+◌, ◌<◌, sym, refl, ◌∙◌, arith, drop-set-lt, rules}
 use Rattle.std.proofs.lemmas.List.{take_more_set, length-set, drop-drop}
 use Rattle.lists.proofs.Counted.push.Goals as goal
 

@@ -1,4 +1,4 @@
-use Rattle.std.proofs.Common.{◌≡◌, ℕ, ◌<◌, ◌≤◌, min, length, take, sym, refl, arith, length-take, take_all, rules}
+use Rattle.std.proofs.Common.{◌≤◌, length, take, sym, refl, arith, length-take, take_all}
 use Rattle.std.proofs.lemmas.List.{take-take}
 use Rattle.lists.proofs.Counted.truncate.Goals as goal
 

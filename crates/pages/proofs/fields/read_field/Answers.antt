@@ -1,4 +1,4 @@
-use Rattle.std.proofs.Common.{◌≡◌, ℕ, ◌+◌, ◌-◌, ◌*◌, ◌≤◌, List, [], ◌∷◌, length, get_or, take, drop, sym, ap, ◌∙◌, subst, arith, ltb-false, ltb-true, leb-true}
+use Rattle.std.proofs.Common.{◌≡◌, ℕ, ◌+◌, ◌-◌, ◌*◌, ◌≤◌, List, [], ◌∷◌, length, get_or, take, drop, ap, ◌∙◌, arith, ltb-false, ltb-true, leb-true}
 use Rattle.std.proofs.lemmas.List.{take_rest}
 use Rattle.pages.specs.Fields.{tag_of, tagged, headed}
 use Rattle.pages.proofs.fields.read_field.Goals as goal

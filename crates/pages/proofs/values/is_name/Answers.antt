@@ -1,4 +1,4 @@
-use Rattle.std.proofs.Common.{sym, refl, ap, ◌∙◌, arith, ltb-false, ltb-true, leb-true}
+use Rattle.std.proofs.Common.{sym, refl, arith, ltb-false, ltb-true, leb-true}
 use Rattle.pages.specs.Values.{begins_name, every, in_name, is_name}
 use Rattle.pages.proofs.Bytes.{at_first}
 use Rattle.pages.proofs.values.is_name.Goals as goal

@@ -1,10 +1,10 @@
-use Rattle.std.proofs.Common.{◌≡◌, ℕ, ◌<◌, ◌≤◌, List, length, drop, Err, sym, refl, ap, ◌∙◌, arith}
+use Rattle.std.proofs.Common.{ℕ, drop, Err, sym, refl, ap, ◌∙◌, arith}
 use Rattle.std.proofs.lemmas.Result.{err_from_is_err_and}
-use Rattle.lists.specs.Lists.{items, used}
+use Rattle.lists.specs.Lists.{items}
 use Rattle.pages.specs.Pages.{refused, still_open, ended, answer}
 use Rattle.pages.specs.Taken.{held}
 use Rattle.pages.proofs.Sound.{field_is}
-use Rattle.pages.proofs.Walking.{room_of, start, more, field_refused, step_refused, finished, still_open_lem, many, answers, holds, accepted, same_items, same_rest}
+use Rattle.pages.proofs.Walking.{start, more, field_refused, step_refused, finished, still_open_lem, many, answers, holds, accepted, same_items, same_rest}
 use Rattle.pages.proofs.walk.walk.Goals as goal
 
 pub loop-at-init : goal.loop-at-init

@@ -1,8 +1,7 @@
-use Rattle.std.proofs.Common.{◌≡◌, ℕ, ◌≤◌, List, [], length, take, sym, refl, ap, ◌∙◌, subst, arith, rules}
-use Rattle.lists.specs.Lists.{items, used, room}
-use Rattle.grammar.specs.Grammar.{Outcome, expr, read_task, answer}
+use Rattle.std.proofs.Common.{◌≡◌, ℕ, [], take, sym, refl, ap, ◌∙◌, subst, arith}
+use Rattle.lists.specs.Lists.{items}
+use Rattle.grammar.specs.Grammar.{Outcome, answer}
 use Rattle.reading.specs.Machine.{Read}
-use Rattle.reading.specs.declared.frames.Frame.{Frame}
 use Rattle.reading.proofs.Turns.{sound_start}
 use Rattle.reading.proofs.machine.read_expr.Goals as goal
 

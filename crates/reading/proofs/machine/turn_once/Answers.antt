@@ -1,6 +1,6 @@
-use Rattle.std.proofs.Common.{◌≡◌, ℕ, ◌+◌, ◌≤◌, List, length, sym, refl, ap, ◌∙◌, subst, arith, rules}
+use Rattle.std.proofs.Common.{◌≡◌, ℕ, ◌+◌, ◌≤◌, length, sym, refl, ap, ◌∙◌, subst, arith}
 use Rattle.lists.specs.Lists.{items, used, room}
-use Rattle.reading.specs.Moves.{decide_of, close_of, relinked_of, shut_of}
+use Rattle.reading.specs.Moves.{decide_of, close_of, shut_of}
 use Rattle.reading.specs.Machine.{LastIn, RoomFor, Applied}
 use Rattle.reading.specs.declared.frames.Frame.{Frame}
 use Rattle.reading.specs.declared.frames.Move.{Move}

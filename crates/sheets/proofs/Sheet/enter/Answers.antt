@@ -1,4 +1,3 @@
-use Rattle.std.proofs.Common.{arith}
 use Rattle.sheets.specs.Sheets.{state_of}
 use Rattle.sheets.proofs.Follow.{enter_follows}
 use Rattle.sheets.proofs.Sheet.enter.Goals as goal

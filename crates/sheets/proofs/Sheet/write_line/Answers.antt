@@ -1,4 +1,4 @@
-use Rattle.std.proofs.Common.{◌≡◌, ℕ, ◌<◌, ◌≤◌, length, get_or, sym, refl, ap, ◌∙◌, subst, arith, rules}
+use Rattle.std.proofs.Common.{ℕ, ◌<◌, ◌≤◌, get_or, sym, ap, ◌∙◌, subst, arith, rules}
 use Rattle.trees.specs.declared.Node.{Node}
 use Rattle.lines.specs.Lines.{line_bytes, written}
 use Rattle.sheets.specs.Sheets.{state_of}

@@ -1,4 +1,4 @@
-use Rattle.std.proofs.Common.{◌≡◌, sym, ◌∙◌, arith, rules}
+use Rattle.std.proofs.Common.{sym, ◌∙◌, arith, rules}
 use Rattle.grammar.specs.Grammar.{expr, read_task}
 use Rattle.sheets.proofs.Readings.{refused_reads, left_reads, grown, all_reads}
 use Rattle.sheets.proofs.entering.read_rule.Goals as goal
