@@ -13,7 +13,7 @@ import re
 import sys
 
 WORD = r"[^\s(){}.;,@\"«»]+"
-OURS = "in_ok in_err in_default overflow_add overflow_sub overflow_mul overflow_cast overflow_step slice_bounds nonzero_div nonzero_rem invariant_of offset_bounds type_inv".split()
+OURS = "from_residual in_ok in_err in_default overflow_add overflow_sub overflow_mul overflow_cast overflow_step slice_bounds nonzero_div nonzero_rem invariant_of offset_bounds type_inv".split()
 LABEL = re.compile(rf"(?<=\.)({WORD})|(?<=goal\.)({WORD})")
 
 

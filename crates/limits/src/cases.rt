@@ -1,9 +1,9 @@
 // Cases, as they are written on a line.
 ghost use Rattle.std.specs.Prelude.{◌<◌, IfOk};
 
-// How many nodes, rules and tokens the lent spaces have.
 use anyhow::anyhow;
 
+// How many nodes, rules and tokens the lent spaces have.
 #[derive(Clone, Copy)]
 pub struct Sizes {
     pub nodes: usize,

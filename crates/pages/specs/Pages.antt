@@ -1,5 +1,5 @@
 -- A page is its fields in order: their tokens, up to the first field that is refused. Assumes nothing.
-use Rattle.std.specs.Prelude.{◌≡◌, ℕ, zero, suc, ◌+◌, ◌-◌, ◌<◌, ◌≤◌, min, cond, List, [], ◌++◌, length, get_or, drop, Some, None, Ok, Err, Option, Result, nat_lt, slice_index_or}
+use Rattle.std.specs.Prelude.{◌≡◌, ℕ, zero, suc, ◌+◌, ◌-◌, ◌<◌, ◌≤◌, min, cond, List, [], ◌++◌, length, drop, Some, None, Ok, Err, Option, Result, nat_lt, slice_index_or}
 use Rattle.refusals.specs.declared.Refusal.{Refusal}
 use Rattle.refusals.specs.declared.Refusal.TheVariants.{Unbalanced, NotThere}
 use Rattle.tokens.specs.Looks.{no_token, field_of}
@@ -19,7 +19,7 @@ refused h e = record { tokens = h.tokens; fault = Some e }
 -- an opener that is never closed is refused at its field, which begins three bytes before its value
 abbrev pub still_open : List Token → Option ℕ → Option Refusal
 still_open ts None = None
-still_open ts (Some p) = Some (Unbalanced ((get_or ts p no_token).start - 3))
+still_open ts (Some p) = Some (Unbalanced ((slice_index_or ts p no_token).start - 3))
 
 abbrev pub ended : Held → Outcome
 ended h = record { tokens = h.tokens; fault = still_open h.tokens h.inner }
@@ -69,7 +69,7 @@ pub record Accepted (size : ℕ) (page : List ℕ) (n : ℕ) : Type 0 where
   pub most : n ≤ 4096
   pub fits : n ≤ size
   -- each value stands on the page
-  pub placed : (i : ℕ) → i < n → (get_or (tokens_of (min size 4096) page) i no_token).start + (get_or (tokens_of (min size 4096) page) i no_token).len ≤ length page
+  pub placed : (i : ℕ) → i < n → (slice_index_or (tokens_of (min size 4096) page) i no_token).start + (slice_index_or (tokens_of (min size 4096) page) i no_token).len ≤ length page
   pub nested : Nested (tokens_of (min size 4096) page)
 
 -- the bytes of the value of a token, if there is such a token

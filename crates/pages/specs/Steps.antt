@@ -1,5 +1,5 @@
 -- One field more: what is held after it, or why it is refused. Assumes nothing.
-use Rattle.std.specs.Prelude.{ℕ, ◌+◌, ◌-◌, Bool, true, false, cond, List, [], ◌∷◌, ◌++◌, length, get_or, Some, None, Ok, Err, Option, Result, ◌==◌, nat_lt, slice_index_or, slice_set}
+use Rattle.std.specs.Prelude.{ℕ, ◌+◌, ◌-◌, Bool, true, false, cond, List, [], ◌∷◌, ◌++◌, length, Some, None, Ok, Err, Option, Result, ◌==◌, nat_lt, slice_index_or, slice_set}
 use Rattle.refusals.specs.declared.Refusal.{Refusal}
 use Rattle.refusals.specs.declared.Refusal.TheVariants.{Unbalanced, TooManyTokens}
 use Rattle.tokens.specs.Looks.{no_token}
@@ -57,7 +57,7 @@ closed room at ts t d p (Close e) = Err (Unbalanced at)
 
 abbrev pub closing : (room at : ℕ) → List Token → Token → Delimiter → Option ℕ → Result Held Refusal
 closing room at ts t d None = Err (Unbalanced at)
-closing room at ts t d (Some p) = closed room at ts t d p (get_or ts p no_token).look
+closing room at ts t d (Some p) = closed room at ts t d p (slice_index_or ts p no_token).look
 
 -- an opener holds how many places back the opener around it stands, until its own closer comes
 abbrev pub opening : (room at : ℕ) → Held → Token → Delimiter → Result Held Refusal

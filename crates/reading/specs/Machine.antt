@@ -174,19 +174,19 @@ module _ (reading : Part → List Field → Result ℕ Denial) (page : List ℕ)
     Kept S F s N' F' (Back r) = Turned S N' r
 
   -- what a turn starts from, with room for what it may push
-  pub record Ready (top : ℕ) (N : List Node) (F : List Frame) (s : Spot) (frameRoom nodeRoom : ℕ) : Type 0 where
+  pub record Ready (top : ℕ) (N : List Node) (F : List Frame) (s : Spot) (frame_room node_room : ℕ) : Type 0 where
     pub whole : Outcome
     pub start : List Node
     pub sound : Sound top whole start N F s
-    pub for_frames : top ≤ frameRoom
-    pub for_nodes : length start + top ≤ nodeRoom
+    pub for_frames : top ≤ frame_room
+    pub for_nodes : length start + top ≤ node_room
 
 -- the room that a move wants
 abbrev pub RoomFor : Move → ℕ → ℕ → ℕ → ℕ → Type 0
-RoomFor (Push f next) fs frameRoom ns nodeRoom = fs < frameRoom
-RoomFor (Emit n next) fs frameRoom ns nodeRoom = ns < nodeRoom
-RoomFor (Ended x) fs frameRoom ns nodeRoom = Unit {0}
-RoomFor (Refuse r) fs frameRoom ns nodeRoom = Unit {0}
+RoomFor (Push f next) fs frame_room ns node_room = fs < frame_room
+RoomFor (Emit n next) fs frame_room ns node_room = ns < node_room
+RoomFor (Ended x) fs frame_room ns node_room = Unit {0}
+RoomFor (Refuse r) fs frame_room ns node_room = Unit {0}
 
 -- what a move does to the frames and the output
 abbrev pub Applied : Move → List Frame → List Frame → List Node → List Node → Turn → Type 0

@@ -86,7 +86,7 @@ impl<'a, 'b> Sheet<'a, 'b> {
 
     // An empty sheet over a space for nodes and one for rules, of which it uses at most 4,096 and 256.
     pub fn new(nodes: &'a mut [Node], rules: &'b mut [Rule]) -> Sheet<'a, 'b>
-        ensures room { room_of (state_of result) ≡ record { nodes = min (length nodes.entry.now) 4096; rules = min (length rules.old) 256 } }
+        ensures room { room_of (state_of result) ≡ record { nodes = min (length nodes.old) 4096; rules = min (length rules.old) 256 } }
         ensures empty { Holds (state_of result) [] }
         ensures lender { (result.nodes.ghost_name ≡ nodes.entry.ghost_name) × (result.rules.ghost_name ≡ rules.entry.ghost_name) }
     {

@@ -1,6 +1,6 @@
 // What a window shows, and how it moves. A look past the level's end shows nothing.
-ghost use Rattle.std.specs.Prelude.{◌≡◌, ℕ, ◌+◌, ◌-◌, ◌<◌, ◌≤◌, min, Bool, true, false, cond, ◌&&◌, length};
-ghost use Rattle.tokens.specs.Looks.{look_at, mark_at, joined_at, two_at, three_at};
+ghost use Rattle.std.specs.Prelude.{◌≡◌, ℕ, ◌+◌, ◌-◌, ◌<◌, ◌≤◌, min, Bool, true, false, cond, ◌&&◌, [], length, take, drop, if◌then◌else◌, nat_lt, slice_index_or};
+ghost use Rattle.tokens.specs.Looks.{no_token, look_at, mark_at, joined_at, two_at, three_at, field_of};
 ghost use Rattle.tokens.specs.Words.{word_at, word_number};
 
 use super::super::{Look, Token, Word};
@@ -62,6 +62,22 @@ impl<'p, 't> Window<'p, 't> {
         }
     }
 
+    // The value of the token at a place, as far as it lies on the page.
+    pub fn value(self, i: usize) -> &'p [u8]
+        ensures { result.now ≡ (if nat_lt i self.entry.end then (field_of self.entry.page.now (slice_index_or self.entry.tokens.now i no_token)).bytes else []) }
+    {
+        if i < self.end {
+            let Token {
+                look: _,
+                start,
+                len,
+            } = self.tokens[i];
+            bytes_from(self.page, start, len)
+        } else {
+            &[]
+        }
+    }
+
     // Whether the token at a place is a name that spells a word.
     pub fn spells(self, i: usize, word: Word) -> bool
         ensures { result ≡ word_at self.entry.tokens.now self.entry.end i word }
@@ -111,4 +127,19 @@ fn word_number(w: Word) -> u8
     ensures { result ≡ word_number w }
 {
     w as u8
+}
+
+// The bytes of the page from a place on, at most this many.
+fn bytes_from(page: &[u8], start: usize, len: usize) -> &[u8]
+    ensures { result.now ≡ take len (drop start page.now) }
+{
+    if start >= page.len() {
+        return &[];
+    }
+    let rest = &page[start..];
+    if len < rest.len() {
+        &rest[0..len]
+    } else {
+        rest
+    }
 }

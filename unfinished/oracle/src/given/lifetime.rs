@@ -1,3 +1,0 @@
-// Lifetimes.
-
-// whole: lifetime.rs

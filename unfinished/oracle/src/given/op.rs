@@ -1,3 +1,0 @@
-// Binary and unary operators.
-
-// whole: op.rs

@@ -1,3 +1,0 @@
-// The order of operators.
-
-// whole: precedence.rs
