@@ -16,13 +16,13 @@ pub examples_hold : ExamplesHold
 unfolding class_of word_of field_at walk outcome tokens_of fault_of sign_at range_ends statement_reading deep tied read_task digits
 examples_hold =
     record {
-      sum-with-product = refl;
-      two-differences = refl;
-      two-assignments = refl;
-      two-comparisons = (refl, refl);
-      two-ranges-assigned = (refl, refl);
-      range-divided = (refl, refl);
-      range-assigned = (refl, refl);
-      cast-with-field = (refl, refl);
-      lines-of-sum-with-product = refl;
+      sum_with_product = refl;
+      two_differences = refl;
+      two_assignments = refl;
+      two_comparisons = (refl, refl);
+      two_ranges_assigned = (refl, refl);
+      range_divided = (refl, refl);
+      range_assigned = (refl, refl);
+      cast_with_field = (refl, refl);
+      lines_of_sum_with_product = refl;
     }

@@ -69,39 +69,39 @@ page has_lines bytes = sheet_bytes (added [] (entered_as page)) ≡ bytes
 -- the examples, each named after the expression that its page has
 pub record ExamplesHold : Type 0 where
   -- `a + b * c` is a + (b * c)
-  pub sum-with-product :
+  pub sum_with_product :
       name "a" ++ marks "+" ++ name "b" ++ marks "*" ++ name "c"
       is binary 1 0 5 (path 0) (binary 3 2 5 (path 2) (path 4))
   -- `a - b - c` is (a - b) - c
-  pub two-differences :
+  pub two_differences :
       name "a" ++ marks "-" ++ name "b" ++ marks "-" ++ name "c"
       is binary 2 0 5 (binary 2 0 3 (path 0) (path 2)) (path 4)
   -- `a = b = c` is a = (b = c)
-  pub two-assignments :
+  pub two_assignments :
       name "a" ++ marks "=" ++ name "b" ++ marks "=" ++ name "c"
       is assign 0 5 (path 0) (assign 2 5 (path 2) (path 4))
   -- `a < b < c` is refused at the second `<`
-  pub two-comparisons :
+  pub two_comparisons :
       name "a" ++ marks "<" ++ name "b" ++ marks "<" ++ name "c"
       is_refused_by ComparisonChained 3 numbered 9
   -- `a = b..c..d` is refused at the second `..`
-  pub two-ranges-assigned :
+  pub two_ranges_assigned :
       name "a" ++ marks "=" ++ name "b" ++ marks ".." ++ name "c" ++ marks ".." ++ name "d"
       is_refused_by BindingBroken 6 numbered 10
   -- `a + .. / c` is refused at `/`
-  pub range-divided :
+  pub range_divided :
       name "a" ++ marks "+" ++ marks ".." ++ marks "/" ++ name "c"
       is_refused_by BindingBroken 4 numbered 10
   -- `a..b = c` is read up to `=`, and what is left over is refused
-  pub range-assigned :
+  pub range_assigned :
       name "a" ++ marks ".." ++ name "b" ++ marks "=" ++ name "c"
       is_refused_by LeftOver 4 numbered 15
   -- `x as t.f` is refused at `.`
-  pub cast-with-field :
+  pub cast_with_field :
       name "x" ++ name "as" ++ name "t" ++ marks "." ++ name "f"
       is_refused_by CastFollowed 3 numbered 11
   -- `a + b * c` has five nodes: a, b, c, b * c, and the whole. A line has a node's number, kind, op and span
-  pub lines-of-sum-with-product :
+  pub lines_of_sum_with_product :
       name "a" ++ marks "+" ++ name "b" ++ marks "*" ++ name "c"
       has_lines
       codes "rules 1 nodes 5\n" ++

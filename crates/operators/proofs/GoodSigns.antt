@@ -9,7 +9,7 @@ use Rattle.operators.specs.declared.Sign.TheVariants.{Nothing, Operator, ThreeDo
 use Rattle.operators.specs.Spellings.{spelled_at, as_at}
 use Rattle.operators.specs.Signs.{spellings, first_of, sign_at, GoodSign}
 
--- what the table keeps, as a test: no character is 0, which is what `markAt` shows of anything but a mark, and an operator
+-- what the table keeps, as a test: no character is 0, which is what `mark_at` shows of anything but a mark, and an operator
 -- has as many tokens as its spelling has characters
 abbrev characters : List ℕ → Bool
 characters [] = true
