@@ -8,26 +8,12 @@ with underscores stand in src/, and turns labels in proofs/F/ alone: what follow
 name, and what a file takes from the modules that the toolchain makes.
 """
 
-import os
 import re
 import sys
 
-WORD = r"[^\s(){}.;,@\"«»]+"
+from respell import WORD, files, read
+
 OURS = "from_residual in_ok in_err in_default overflow_add overflow_sub overflow_mul overflow_cast overflow_step slice_bounds nonzero_div nonzero_rem invariant_of offset_bounds type_inv".split()
-LABEL = re.compile(rf"(?<=\.)({WORD})|(?<=goal\.)({WORD})")
-
-
-def files(root, ends):
-    for folder, dirs, names in os.walk(os.path.join(root, "crates")):
-        dirs[:] = sorted(d for d in dirs if d != "out")
-        for name in sorted(names):
-            if name.endswith(ends):
-                yield os.path.join(folder, name)
-
-
-def read(path):
-    with open(path, encoding="utf-8") as f:
-        return f.read()
 
 
 def joined(label, idents):
