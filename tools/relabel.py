@@ -13,10 +13,12 @@ import sys
 
 from respell import WORD, files, read
 
+# Words with underscores that stand in the toolchain's own labels.
 OURS = "from_residual in_ok in_err in_default overflow_add overflow_sub overflow_mul overflow_cast overflow_step slice_bounds nonzero_div nonzero_rem invariant_of offset_bounds type_inv".split()
 
 
 def joined(label, idents):
+    """The label with underscores in its names, the longest first: returns-in-all-digits gives returns-in-all_digits."""
     parts, out, at = label.split("-"), [], 0
     while at < len(parts):
         for n in range(len(parts) - at, 0, -1):

@@ -8,7 +8,9 @@ front_last and Few-nodes FewNodes. A lemma that would meet a definition gets _le
 name. Ghost members and clauses of src/ are turned too; functions of src/, labels that the toolchain makes (what an
 answer file states at a type 'goal.x', and what follows 'goal.' or 'c.'), strings, inputs and
 outputs keep their names. It turns whole words in the .antt, .rt and .edit files below crates/.
-A line 'meets:' names a file where a new name stood already; nothing is written then.
+A line 'meets:' names a file where a new name stood already; nothing is written then. With
+--check nothing is written at all. It was run on the unfinished work too, so it knows of crates
+that stand in unfinished/ alone. No .edit file held a name that it turns.
 """
 
 import os
@@ -124,6 +126,7 @@ def main(words):
     roots = [w for w in words if not w.startswith("--")]
     root = roots[0] if roots else "."
     names, labels, fields = declared(root)
+    # an alias of an import, which is no declaration
     names.add("sign_at")
     table = {n: new_name(n) for n in names if n not in labels and new_name(n) != n}
     for lemma in [n for n in table if "-" in n and n not in MET]:

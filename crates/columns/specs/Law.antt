@@ -1,6 +1,7 @@
--- The answers of the host for columns are lawful. Assumes nothing.
-use Rattle.std.proofs.Common.{◌≡◌, ℕ, zero, suc, ◌≤◌, true, false, List, [], ◌∷◌, Some, ap, arith}
+-- The answers of the host for columns are lawful, and so are those of a fence around a lawful host. Assumes nothing.
+use Rattle.std.proofs.Common.{◌≡◌, ℕ, zero, suc, ◌≤◌, Bool, true, false, cond, List, [], ◌∷◌, Some, Err, Result, ap, arith}
 use Rattle.std.proofs.lemmas.Bool.{and_parts}
+use Rattle.refusals.specs.declared.Denial.{Denial}
 use Rattle.refusals.specs.declared.Part.{Part}
 use Rattle.refusals.specs.declared.Part.TheVariants.{Path, TypeName, Pattern, Block, Keyword, Arguments}
 use Rattle.tokens.specs.declared.Delimiter.{Delimiter}
@@ -9,6 +10,8 @@ use Rattle.tokens.specs.Looks.{Field}
 use Rattle.hosts.specs.Lawful.{looks, Whole, LawfulLength, Lawful}
 use Rattle.hosts.specs.Roles.{tested}
 use Rattle.columns.specs.Columns.{any_name}
+use Rattle.columns.specs.declared.fence.Parts.{Parts}
+use Rattle.columns.specs.Fences.{allows, fenced}
 use Rattle.columns.specs.Names.{among, names_for, code_for, denied, begins_with, name_reading}
 
 denied_lawful : (part : Part) (l : List Field) → Lawful l (denied part)
@@ -42,3 +45,11 @@ name_length names (f ∷ l) t =
 pub name_lawful : (columns : List (List ℕ)) (part : Part) (l : List Field) → Lawful l (name_reading columns part l)
 name_lawful columns part l =
     tested (begins_with (names_for columns part) l) (λ t. rw t (name_length (names_for columns part) l t)) (λ f. rw f (denied_lawful part l))
+
+-- what a fence lets through is the answer from below, and what it denies carries the number 3 and the code 5
+pub fenced_lawful : (s : Parts) (inner : Part → List Field → Result ℕ Denial) (part : Part) (l : List Field) → Lawful l (inner part l) → Lawful l (fenced s inner part l)
+fenced_lawful s inner part l h = through (allows s part)
+  where
+    through : (b : Bool) → Lawful l (cond b (inner part l) (Err (record { host = 3; code = 5 })))
+    through true = h
+    through false = record { host = (omega arith, omega arith); code = (omega arith, omega arith) }

@@ -1,7 +1,7 @@
 // A fence around a host, which lets through a set of parts and denies the others.
 ghost use Rattle.std.specs.Prelude.{◌≡◌};
 ghost use Rattle.columns.specs.Fences.{no_parts, both_parts, allows, fenced, OneFence};
-ghost use Rattle.std.proofs.Common.{rules};
+ghost use Rattle.columns.specs.Law.{fenced_lawful};
 
 use hosts::Host;
 use refusals::{Denial, Part};
@@ -89,7 +89,7 @@ impl<H: Host> Host for Fence<H> {
 
     ghost reading = { λ f. fenced f.allowed (H.Host.reading f.inner) };
 
-    ghost lawful = { Prim.search rules };
+    ghost lawful = { λ f part l. fenced_lawful f.allowed (H.Host.reading f.inner) part l (H.Host.lawful f.inner part l) };
 
     fn own() -> u8 {
         FENCE_NUMBER
