@@ -1,0 +1,3 @@
+// Lifetimes.
+
+// whole: lifetime.rs

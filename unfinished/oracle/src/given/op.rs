@@ -1,0 +1,3 @@
+// Binary and unary operators.
+
+// whole: op.rs

@@ -1,0 +1,3 @@
+// The order of operators.
+
+// whole: precedence.rs
