@@ -5,12 +5,16 @@ usage: respell.py [--check] [ROOT]
 
 Words are in snake case and types in upper camel case: rootAt becomes root_at, front-last
 front_last and Few-nodes FewNodes. A lemma that would meet a definition gets _lem behind its
-name. Ghost members and clauses of src/ are turned too; functions of src/, labels that the toolchain makes (what an
-answer file states at a type 'goal.x', and what follows 'goal.' or 'c.'), strings, inputs and
-outputs keep their names. It turns whole words in the .antt, .rt and .edit files below crates/.
+name. Ghost members and clauses of src/ are turned too. Functions of src/, labels that the
+toolchain makes (what an answer file states at a type 'goal.x', and what follows 'goal.' or
+'c.'), strings, inputs and outputs keep their names.
+
+It turns whole words in the .antt, .rt and .edit files below crates/. No .edit file that had
+landed held such a word. It was run on the unfinished work too, so it knows of crates that
+stand in unfinished/ alone.
+
 A line 'meets:' names a file where a new name stood already; nothing is written then. With
---check nothing is written at all. It was run on the unfinished work too, so it knows of crates
-that stand in unfinished/ alone. No .edit file held a name that it turns.
+--check nothing is written at all.
 """
 
 import os
