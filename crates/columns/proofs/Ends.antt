@@ -40,20 +40,20 @@ close_no_name (b ∷ x ∷ xs) = tt
 -- A field at i with n bytes of value, by whether its length is allowed and whether it lies on the page
 
 module _ (i n : ℕ) where
-  no_end : (a b : Bool) (o : Option Look) → NoName o → name_end i (cond a (cond b (looked i n o) (Err (CutShort i))) (Err (BadField i))) ≡ i
+  no_end : (a b : Bool) (o : Option Look) → NoName o → name_end (cond a (cond b (looked i n o) (Err (CutShort i))) (Err (BadField i))) ≡ None
   no_end true true None e = refl
-  no_end true true (Some l) e = ap (λ c. cond c (i + 3 + n) i) e
+  no_end true true (Some l) e = ap (λ c. cond c (Some (i + 3 + n)) None) e
   no_end true false o e = refl
   no_end false b o e = refl
 
-  name_end_lem : (a b c : Bool) (l : Look) → any_name l ≡ true → name_end i (cond a (cond b (looked i n (cond c (Some l) None)) (Err (CutShort i))) (Err (BadField i))) ≡ cond (a && (b && c)) (i + 3 + n) i
-  name_end_lem true true true l e = ap (λ c. cond c (i + 3 + n) i) e
+  name_end_lem : (a b c : Bool) (l : Look) → any_name l ≡ true → name_end (cond a (cond b (looked i n (cond c (Some l) None)) (Err (CutShort i))) (Err (BadField i))) ≡ cond (a && (b && c)) (Some (i + 3 + n)) None
+  name_end_lem true true true l e = ap (λ c. cond c (Some (i + 3 + n)) None) e
   name_end_lem true true false l e = refl
   name_end_lem true false c l e = refl
   name_end_lem false b c l e = refl
 
   -- under any tag but 1
-  other_end : (tag : ℕ) (rest : List ℕ) → eqb tag 1 ≡ false → name_end i (tagged i (tag_of tag) n rest) ≡ i
+  other_end : (tag : ℕ) (rest : List ℕ) → eqb tag 1 ≡ false → name_end (tagged i (tag_of tag) n rest) ≡ None
   other_end tag rest one =
       tested (eqb tag 2) (λ t. rw (one, t) (within 2 2 (mark_look (take n rest)) (mark_no_name (take n rest))))
       (λ two. tested (eqb tag 3) (λ t. rw (one, two, t) (within 1 20 (cond (is_integer (take n rest)) (Some look.Integer) None) (if_some (is_integer (take n rest)) look.Integer refl)))
@@ -64,23 +64,23 @@ module _ (i n : ℕ) where
       (λ seven. tested (eqb tag 8) (λ t. rw (one, two, three, four, five, six, seven, t) (within 1 1 (close_look (take n rest)) (close_no_name (take n rest))))
       (λ eight. rw (one, two, three, four, five, six, seven, eight))))))))
     where
-      within : (low high : ℕ) (o : Option Look) → NoName o → name_end i (cond (leb low n && leb n high) (cond (leb n (length rest)) (looked i n o) (Err (CutShort i))) (Err (BadField i))) ≡ i
+      within : (low high : ℕ) (o : Option Look) → NoName o → name_end (cond (leb low n && leb n high) (cond (leb n (length rest)) (looked i n o) (Err (CutShort i))) (Err (BadField i))) ≡ None
       within low high o e = no_end (leb low n && leb n high) (leb n (length rest)) o e
 
-  tagged_end : (tag : ℕ) (rest : List ℕ) → name_end i (tagged i (tag_of tag) n rest) ≡ cond (holds_name tag n rest) (i + 3 + n) i
+  tagged_end : (tag : ℕ) (rest : List ℕ) → name_end (tagged i (tag_of tag) n rest) ≡ cond (holds_name tag n rest) (Some (i + 3 + n)) None
   tagged_end tag rest =
       tested (eqb tag 1) (λ t. rw t (name_end_lem (leb 1 n && leb n 64) (leb n (length rest)) (is_name (take n rest)) (look.Name (word_of (take n rest))) refl))
       (λ f. other_end tag rest f ∙ rw f)
 
 -- Over the bytes from i on
 
-head_end : (i n : ℕ) (bytes : List ℕ) → 3 ≤ length bytes → n ≡ 256 * get_or bytes 1 0 + get_or bytes 2 0 → name_end i (headed i bytes) ≡ cond (holds_name (get_or bytes 0 0) n (drop 3 bytes)) (i + 3 + n) i
+head_end : (i n : ℕ) (bytes : List ℕ) → 3 ≤ length bytes → n ≡ 256 * get_or bytes 1 0 + get_or bytes 2 0 → name_end (headed i bytes) ≡ cond (holds_name (get_or bytes 0 0) n (drop 3 bytes)) (Some (i + 3 + n)) None
 head_end i n [] h e = absurd (omega arith)
 head_end i n (a ∷ []) h e = absurd (omega arith)
 head_end i n (a ∷ b ∷ []) h e = absurd (omega arith)
-head_end i n (a ∷ b ∷ c ∷ rest) h e = ap (λ m. name_end i (tagged i (tag_of a) m rest)) (sym e) ∙ tagged_end i n a rest
+head_end i n (a ∷ b ∷ c ∷ rest) h e = ap (λ m. name_end (tagged i (tag_of a) m rest)) (sym e) ∙ tagged_end i n a rest
 
-short_head : (i : ℕ) (bytes : List ℕ) → length bytes ≤ 2 → name_end i (headed i bytes) ≡ i
+short_head : (i : ℕ) (bytes : List ℕ) → length bytes ≤ 2 → name_end (headed i bytes) ≡ None
 short_head i [] h = refl
 short_head i (a ∷ []) h = refl
 short_head i (a ∷ b ∷ []) h = refl
@@ -92,14 +92,14 @@ module _ (page : List ℕ) (i : ℕ) where
   abbrev bytes : List ℕ
   bytes = take (length page - i) (drop i page)
 
-  field_end : name_end i (headed i bytes) ≡ name_end i (field_at page i)
+  field_end : name_end (headed i bytes) ≡ name_end (field_at page i)
   unfolding field_at
-  field_end = ap (λ l. name_end i (headed i l)) (take_rest page i)
+  field_end = ap (λ l. name_end (headed i l)) (take_rest page i)
 
-  pub short_end : length bytes ≤ 2 → i ≡ name_end i (field_at page i)
+  pub short_end : length bytes ≤ 2 → None ≡ name_end (field_at page i)
   short_end h = sym (short_head i bytes h) ∙ field_end
 
-  pub long_end : (n : ℕ) (b : Bool) → 3 ≤ length bytes → n ≡ 256 * get_or bytes 1 0 + get_or bytes 2 0 → b ≡ holds_name (get_or bytes 0 0) n (take (length bytes - 3) (drop 3 bytes)) → cond b (i + 3 + n) i ≡ name_end i (field_at page i)
+  pub long_end : (n : ℕ) (b : Bool) → 3 ≤ length bytes → n ≡ 256 * get_or bytes 1 0 + get_or bytes 2 0 → b ≡ holds_name (get_or bytes 0 0) n (take (length bytes - 3) (drop 3 bytes)) → cond b (Some (i + 3 + n)) None ≡ name_end (field_at page i)
   long_end n b h e is =
-      ap (λ c. cond c (i + 3 + n) i) (is ∙ ap (holds_name (get_or bytes 0 0) n) (take_rest bytes 3))
+      ap (λ c. cond c (Some (i + 3 + n)) None) (is ∙ ap (holds_name (get_or bytes 0 0) n) (take_rest bytes 3))
       ∙ (sym (head_end i n bytes h e) ∙ field_end)

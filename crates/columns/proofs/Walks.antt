@@ -1,15 +1,15 @@
--- The walk over a page of columns: what is left to see at a byte, one name more, and the end. Assumes nothing.
-use Rattle.std.proofs.Common.{◌≡◌, ℕ, zero, suc, ◌+◌, ◌-◌, ◌<◌, ◌≤◌, Bool, true, false, cond, ◌||◌, ltb, List, [], ◌∷◌, length, take, drop, Ok, Err, Result, sym, refl, ap, ◌∙◌, arith, ltb-false, ltb-true}
-use Rattle.std.specs.Str.{bytes_eq}
+-- The walk over a page of columns: the names that are left at a byte, where one follows and where none does.
+-- Assumes nothing.
+use Rattle.std.proofs.Common.{◌≡◌, ℕ, zero, suc, ◌+◌, ◌-◌, ◌<◌, ◌≤◌, Bool, true, false, cond, ltb, List, [], ◌∷◌, length, take, drop, Some, None, Ok, Err, Result, sym, refl, ap, ◌∙◌, arith, ltb-false, ltb-true}
 use Rattle.std.proofs.lemmas.List.{drop_all}
 use Rattle.refusals.specs.declared.Refusal.{Refusal}
 use Rattle.refusals.specs.declared.Refusal.TheVariants.{CutShort}
+use Rattle.tokens.specs.Looks.{field_of}
 use Rattle.tokens.specs.declared.Token.{Token}
 use Rattle.pages.specs.Fields.{headed, field_at}
 use Rattle.pages.proofs.Sound.{field_is}
 use Rattle.hosts.specs.Roles.{tested}
-use Rattle.columns.specs.Columns.{any_name, named, names_from, columns_of}
-use Rattle.columns.specs.Names.{among}
+use Rattle.columns.specs.Columns.{any_name, named, names_from, names_left}
 use Rattle.columns.specs.Walk.{name_end}
 
 -- One field
@@ -26,71 +26,66 @@ starts page i t e =
     tested (ltb i (length page)) (λ l. let on : i < length page = omega (arith, ltb-true) in (field_is page i t on e).0)
     (λ l. let off : length page ≤ i = omega (arith, ltb-false) in
     let gone = past_page page i off in
-    let z : ◌≡◌ {A = ℕ} 0 1 = cc in
-    absurd (omega arith))
+    absurd cc)
 
 module _ (page : List ℕ) (following : ℕ → List (List ℕ)) (i : ℕ) where
-  named_none : (f : Result Token Refusal) → Starts i f → i ≡ name_end i f → named page following f ≡ []
-  named_none (Err e) s h = refl
-  named_none (Ok t) s h = at (any_name t.look) h
+  named_none : (f : Result Token Refusal) → name_end f ≡ None → named page following f ≡ []
+  named_none (Err e) h = refl
+  named_none (Ok t) h = at (any_name t.look) h
     where
-      at : (b : Bool) → i ≡ cond b (t.start + t.len) i → cond b (take t.len (drop t.start page) ∷ following (t.start + t.len)) [] ≡ []
-      at true e = absurd (omega (arith, s t refl))
+      at : (b : Bool) → cond b (Some (t.start + t.len)) None ≡ None → cond b (take t.len (drop t.start page) ∷ following (t.start + t.len)) [] ≡ []
+      at true e = absurd cc
       at false e = refl
 
-  named_some : (f : Result Token Refusal) → Starts i f → (next : ℕ) → next ≡ name_end i f → (next ≡ i → ⊥) → named page following f ≡ take (next - (i + 3)) (drop (i + 3) page) ∷ following next
-  named_some (Err e) s next h moved = absurd (moved h)
-  named_some (Ok t) s next h moved = at (any_name t.look) h
+  named_some : (f : Result Token Refusal) → Starts i f → (next : ℕ) → name_end f ≡ Some next → named page following f ≡ take (next - (i + 3)) (drop (i + 3) page) ∷ following next
+  named_some (Err e) s next h = absurd cc
+  named_some (Ok t) s next h = at (any_name t.look) h
     where
-      at : (b : Bool) → next ≡ cond b (t.start + t.len) i → cond b (take t.len (drop t.start page) ∷ following (t.start + t.len)) [] ≡ take (next - (i + 3)) (drop (i + 3) page) ∷ following next
+      at : (b : Bool) → cond b (Some (t.start + t.len)) None ≡ Some next → cond b (take t.len (drop t.start page) ∷ following (t.start + t.len)) [] ≡ take (next - (i + 3)) (drop (i + 3) page) ∷ following next
       at true e =
+          let end : t.start + t.len ≡ next = cc in
           let begin : t.start ≡ i + 3 = s t refl in
           let len : t.len ≡ next - (i + 3) = omega arith in
-          ap (λ n. take t.len (drop t.start page) ∷ following n) (sym e)
+          ap (λ n. take t.len (drop t.start page) ∷ following n) end
           ∙ (ap (λ n. take n (drop t.start page) ∷ following next) len ∙ ap (λ n. take (next - (i + 3)) (drop n page) ∷ following next) begin)
-      at false e = absurd (moved e)
+      at false e = absurd cc
 
 -- The whole page
 
--- up to the byte i the name has not been seen
-pub record Walked (page name : List ℕ) (i : ℕ) : Type 0 where
-  pub within : i ≤ length page
-  pub left : ℕ
-  pub enough : length page ≤ i + left
-  pub same : among name (columns_of page) ≡ among name (names_from page left i)
-
-pub begun : (page name : List ℕ) → Walked page name 0
-unfolding columns_of
-begun page name = record { within = omega arith; left = length page; enough = omega arith; same = refl }
-
-pub ended : (page name : List ℕ) (i : ℕ) → Walked page name i → i ≡ name_end i (field_at page i) → among name (columns_of page) ≡ false
+past_names : (page : List ℕ) (k i : ℕ) → length page ≤ i → names_from page k i ≡ []
 unfolding names_from
-ended page name i w e = w.same ∙ at w.left
+past_names page zero i h = refl
+past_names page (suc k) i h = ap (named page (names_from page k)) (past_page page i h)
+
+-- the names behind a field are the same for both ways to go on
+same_named : (page : List ℕ) (i : ℕ) (one other : ℕ → List (List ℕ)) → ((j : ℕ) → i < j → one j ≡ other j) → (f : Result Token Refusal) → Starts i f → named page one f ≡ named page other f
+same_named page i one other same (Err e) s = refl
+same_named page i one other same (Ok t) s =
+    let begin : t.start ≡ i + 3 = s t refl in
+    ap (λ l. cond (any_name t.look) ((field_of page t).bytes ∷ l) []) (same (t.start + t.len) (omega arith))
+
+-- a walk that is long enough sees all names
+long_enough : (page : List ℕ) (k l i : ℕ) → length page ≤ i + k → length page ≤ i + l → names_from page k i ≡ names_from page l i
+unfolding names_from
+long_enough page zero l i h g = sym (past_names page l i (omega arith))
+long_enough page (suc k) zero i h g = past_names page (suc k) i (omega arith)
+long_enough page (suc k) (suc l) i h g =
+    same_named page i (names_from page k) (names_from page l) (λ j lt. long_enough page k l j (omega arith) (omega arith)) (field_at page i) (starts page i)
+
+pub none_left : (page : List ℕ) (i : ℕ) → name_end (field_at page i) ≡ None → names_left page i ≡ []
+unfolding names_from
+none_left page i e = at (length page)
   where
-    at : (k : ℕ) → among name (names_from page k i) ≡ false
+    at : (k : ℕ) → names_from page k i ≡ []
     at zero = refl
-    at (suc k) = ap (among name) (named_none page (names_from page k) i (field_at page i) (starts page i) e)
+    at (suc k) = named_none page (names_from page k) i (field_at page i) e
 
--- one name more: it is the name that is looked for, or the walk goes on behind it
-module _ (page name : List ℕ) (i next : ℕ) (e : next ≡ name_end i (field_at page i)) (moved : next ≡ i → ⊥) (beyond : (i + 3 < next) × (next ≤ length page)) where
-  abbrev column : List ℕ
-  column = take (next - (i + 3)) (drop (i + 3) page)
-
-  one_more : (k : ℕ) → length page ≤ i + k → (m : ℕ) × (k ≡ suc m) × (among name (names_from page k i) ≡ (bytes_eq name column || among name (names_from page m next)))
-  unfolding names_from
-  one_more zero h = absurd (omega arith)
-  one_more (suc m) h = (m, refl, ap (among name) (named_some page (names_from page m) i (field_at page i) (starts page i) next e moved))
-
-  pub found : Walked page name i → bytes_eq name column ≡ true → among name (columns_of page) ≡ true
-  found w t = let k = one_more w.left w.enough in w.same ∙ (k.2 ∙ ap (λ b. b || among name (names_from page k.0 next)) t)
-
-  pub walked_on : Walked page name i → bytes_eq name column ≡ false → Walked page name next
-  walked_on w t =
-      let k = one_more w.left w.enough in
-      let fewer = k.1 in
-      record {
-        within = beyond.1;
-        left = k.0;
-        enough = omega (arith, w.enough, fewer);
-        same = w.same ∙ (k.2 ∙ ap (λ b. b || among name (names_from page k.0 next)) t);
-      }
+pub one_left : (page : List ℕ) (i next : ℕ) → name_end (field_at page i) ≡ Some next → i + 3 < next → next ≤ length page → names_left page i ≡ take (next - (i + 3)) (drop (i + 3) page) ∷ names_left page next
+unfolding names_from
+one_left page i next e more within = at (length page) refl
+  where
+    at : (k : ℕ) → k ≡ length page → names_from page k i ≡ take (next - (i + 3)) (drop (i + 3) page) ∷ names_left page next
+    at zero is = absurd (omega arith)
+    at (suc k) is =
+        named_some page (names_from page k) i (field_at page i) (starts page i) next e
+        ∙ ap (λ l. take (next - (i + 3)) (drop (i + 3) page) ∷ l) (long_enough page k (length page) next (omega arith) (omega arith))

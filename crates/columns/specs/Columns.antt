@@ -28,5 +28,9 @@ unfoldable pub names_from : List ℕ → (k i : ℕ) → List (List ℕ)
 names_from page zero i = []
 names_from page (suc k) i = named page (names_from page k) (field_at page i)
 
+-- the names from the byte i on: no page has more of them than bytes
+abbrev pub names_left : List ℕ → ℕ → List (List ℕ)
+names_left page i = names_from page (length page) i
+
 unfoldable pub columns_of : List ℕ → List (List ℕ)
 columns_of page = names_from page (length page) 0

@@ -33,12 +33,11 @@ name_whole f l n zero m o h = absurd (opens o.0 o.1)
     opens d e =
         let is : f.look ≡ Open d m = cc in
         let other : any_name f.look ≡ false = ap any_name is in
-        let z : ◌≡◌ {A = ℕ} 0 1 = cc in
-        omega arith
+        cc
 name_whole f l n (suc k) m o h = absurd (omega arith)
 
 name_length : (names : List (List ℕ)) (l : List Field) → begins_with names l ≡ true → LawfulLength l 1
-name_length names [] t = let z : ◌≡◌ {A = ℕ} 0 1 = cc in absurd (omega arith)
+name_length names [] t = absurd cc
 name_length names (f ∷ l) t =
     record { some = omega arith; within = omega arith; whole = λ nested. name_whole f l (and_parts (any_name f.look) (among f.bytes names) t).0 }
 

@@ -1,5 +1,6 @@
 -- What the host for columns answers: a path is a column, a type is one of two names. Assumes nothing.
-use Rattle.std.specs.Prelude.{ℕ, Bool, false, cond, ◌&&◌, ◌||◌, List, [], ◌∷◌, Ok, Err, codes, Result}
+use Rattle.std.specs.Prelude.{ℕ, Bool, false, cond, ◌&&◌, List, [], ◌∷◌, Ok, Err, codes, Result}
+use Rattle.std.specs.List.{list_any}
 use Rattle.std.specs.Str.{bytes_eq}
 use Rattle.refusals.specs.declared.Denial.{Denial}
 use Rattle.refusals.specs.declared.Part.{Part}
@@ -8,8 +9,7 @@ use Rattle.tokens.specs.Looks.{Field}
 use Rattle.columns.specs.Columns.{any_name}
 
 abbrev pub among : List ℕ → List (List ℕ) → Bool
-among name [] = false
-among name (n ∷ ns) = bytes_eq name n || among name ns
+among name names = list_any (bytes_eq name) names
 
 -- the names that a part may be
 abbrev pub names_for : List (List ℕ) → Part → List (List ℕ)

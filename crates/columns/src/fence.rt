@@ -9,8 +9,8 @@ use tokens::window::Window;
 
 const FENCE_NUMBER: u8 = 3;
 
-// A set of parts.
-#[derive(Clone, Copy)]
+// A set of parts. Each has a name of its own here, since callers write the set out.
+#[derive(Clone, Copy, Default)]
 pub struct Parts {
     pub paths: bool,
     pub types: bool,
@@ -25,14 +25,7 @@ impl Parts {
     pub fn none() -> Parts
         ensures { result ≡ no_parts }
     {
-        Parts {
-            paths: false,
-            types: false,
-            patterns: false,
-            blocks: false,
-            keywords: false,
-            arguments: false,
-        }
+        Parts::default()
     }
 
     // The parts that are in both sets. A fence over a fence is one fence over these.

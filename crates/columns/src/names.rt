@@ -5,7 +5,7 @@ ghost use Rattle.columns.specs.Columns.{any_name, columns_of};
 ghost use Rattle.columns.specs.Law.{name_lawful};
 ghost use Rattle.columns.specs.Names.{among, names_for, code_for, begins_with, name_reading};
 
-use super::walk::{has_column, same};
+use super::walk::has_column;
 use hosts::Host;
 use refusals::{Denial, Part};
 use tokens::Look;
@@ -65,13 +65,13 @@ fn code_for(part: Part) -> u8
     }
 }
 
-// Whether a name may be this part.
+// Whether a name may be this part. The part is a value of the caller's, and so chosen by a match.
 fn may_be(columns: &[u8], part: Part, name: &[u8]) -> bool
     ensures { result ≡ among name.now (names_for (columns_of columns.now) part) }
 {
     match part {
         Part::Path => has_column(columns, name),
-        Part::TypeName => same(name, b"cents") || same(name, b"days"),
+        Part::TypeName => matches!(name, b"cents" | b"days"),
         _ => false,
     }
 }
@@ -80,10 +80,7 @@ fn may_be(columns: &[u8], part: Part, name: &[u8]) -> bool
 fn name_at(w: Window, at: usize) -> bool
     ensures { result ≡ (if nat_lt at w.entry.end then any_name (slice_index_or w.entry.tokens.now at no_token).look else false) }
 {
-    match w.look(at) {
-        Some(Look::Name(_)) => true,
-        _ => false,
-    }
+    matches!(w.look(at), Some(Look::Name(_)))
 }
 
 // Whether a level begins with a name that may be this part.

@@ -1,17 +1,18 @@
 -- The reading of an expression, by recursive descent: a tree with the place where it stops, or the first refusal. Assumes nothing.
-use Rattle.std.specs.Prelude.{ℕ, ◌+◌, ◌-◌, Bool, true, false, cond, not, List, length, Some, None, Ok, Err, Option, Result, ◌==◌}
+use Rattle.std.specs.Prelude.{ℕ, ◌+◌, ◌-◌, Bool, true, false, cond, not, List, length, Some, Ok, Err, Option, Result, ◌==◌}
 use Rattle.refusals.specs.declared.Part.{Part}
 use Rattle.refusals.specs.declared.Part.TheVariants as part
 use Rattle.refusals.specs.declared.Denial.{Denial}
 use Rattle.refusals.specs.declared.Refusal.{Refusal}
 use Rattle.refusals.specs.declared.Refusal.TheVariants as refusal
 use Rattle.tokens.specs.declared.Token.{Token}
-use Rattle.tokens.specs.declared.Delimiter.TheVariants.{Paren, Bracket, Brace}
+use Rattle.tokens.specs.declared.Delimiter.TheVariants.{Paren, Bracket}
 use Rattle.tokens.specs.declared.Look.{Look}
 use Rattle.tokens.specs.declared.Look.TheVariants as look
 use Rattle.tokens.specs.Looks.{Field, look_at, mark_at, two_at, level_of}
 use Rattle.operators.specs.declared.Infix.{Infix}
 use Rattle.operators.specs.declared.Infix.TheVariants as infix_op
+use Rattle.operators.specs.Codes.{code_of}
 use Rattle.operators.specs.Ranks.{rank_of, rank_of_code, above_rank}
 use Rattle.trees.specs.declared.Kind.{Kind}
 use Rattle.trees.specs.declared.Kind.TheVariants as kind
@@ -22,9 +23,9 @@ use Rattle.grammar.specs.Knot.{tied}
 use Rattle.grammar.specs.Heads.{head_at}
 use Rattle.grammar.specs.Tails.{tail_at}
 use Rattle.grammar.specs.declared.Head.{Head}
-use Rattle.grammar.specs.declared.Head.TheVariants.{Leaf, Prefix, Group, NoHead}
+use Rattle.grammar.specs.declared.Head.TheVariants.{Leaf, Prefix, Group}
 use Rattle.grammar.specs.declared.Tail.{Tail}
-use Rattle.grammar.specs.declared.Tail.TheVariants.{Takes, Endless, Casts, Stop, NoTail}
+use Rattle.grammar.specs.declared.Tail.TheVariants.{Takes, Endless, Casts, Stop}
 
 abbrev pub label : Kind → ℕ → ℕ → ℕ → Label
 label k o f t = record { kind = k; op = o; from = f; to = t }
@@ -37,7 +38,7 @@ kind_of (infix_op.Range closed) = kind.Range
 kind_of infix_op.Cast = kind.Cast
 
 abbrev pub op_of : Infix → ℕ
-op_of (infix_op.Binary c) = c
+op_of (infix_op.Binary c) = code_of c
 op_of infix_op.Assign = 0
 op_of (infix_op.Range closed) = cond closed 1 0
 op_of infix_op.Cast = 0
@@ -81,21 +82,11 @@ module _ (ts : List Token) where
   abbrev pub comma_at : ℕ → ℕ → Bool
   comma_at p e = mark_at ts e p == 44
 
-  abbrev pub opens_trailer : Look → Bool
-  opens_trailer (look.Name w) = false
-  opens_trailer (look.Mark c j) = false
-  opens_trailer look.Integer = false
-  opens_trailer look.Float = false
-  opens_trailer look.Literal = false
-  opens_trailer look.Lifetime = false
-  opens_trailer (look.Open Paren n) = true
-  opens_trailer (look.Open Bracket n) = true
-  opens_trailer (look.Open Brace n) = false
-  opens_trailer (look.Close d) = false
-
+  -- `(` and `[`
   abbrev pub trailer_by : Option Look → Bool
-  trailer_by None = false
-  trailer_by (Some l) = opens_trailer l
+  trailer_by (Some (look.Open Paren n)) = true
+  trailer_by (Some (look.Open Bracket n)) = true
+  trailer_by o = false
 
   -- what may not follow a cast: `.` but not `..`, `?`, `[` and `(`
   abbrev pub cast_followed : ℕ → ℕ → Bool
@@ -124,27 +115,27 @@ module _ (reading : Part → List Field → Result ℕ Denial) (page : List ℕ)
         (cond (comma_at ts q c) (read (items f b from us (q + 1) c e)) (refused (refusal.MarkExpected q)))
 
     -- an operand, and then the operators that take it
-    abbrev pub from_head : Bool → ℕ → ℕ → ℕ → Head → Outcome
-    from_head f b p e (Leaf k q) = go_on f b (label k 0 p q) none e
-    from_head f b p e (Prefix k o q r) =
+    abbrev pub from_head : Bool → ℕ → ℕ → ℕ → Result Head Refusal → Outcome
+    from_head f b p e (Ok (Leaf k q)) = go_on f b (label k 0 p q) none e
+    from_head f b p e (Ok (Prefix k o q r)) =
         and_then (read (expr f r q e))
         (λ t s. go_on f b (label k o p s) (none then t) e)
-    from_head f b p e (Group i c) =
+    from_head f b p e (Ok (Group i c)) =
         and_then (read (expr true 0 i c))
         (λ t q. after_item kind.Paren f b p (none then t) q c e)
-    from_head f b p e (NoHead r) = refused r
+    from_head f b p e (Err r) = refused r
 
-    abbrev pub from_tail : Bool → ℕ → Tree → ℕ → ℕ → Tail → Outcome
-    from_tail f b t p e (Takes o q) =
+    abbrev pub from_tail : Bool → ℕ → Tree → ℕ → ℕ → Result Tail Refusal → Outcome
+    from_tail f b t p e (Ok (Takes o q)) =
         and_then (read (expr f (above_rank (rank_of o)) q e))
         (λ u s. go_on f b (label (kind_of o) (op_of o) (label_of t).from s) (none then t then u) e)
-    from_tail f b t p e (Endless q) = go_on f b (label kind.Range 0 (label_of t).from q) (none then t) e
-    from_tail f b t p e (Casts i) =
+    from_tail f b t p e (Ok (Endless q)) = go_on f b (label kind.Range 0 (label_of t).from q) (none then t) e
+    from_tail f b t p e (Ok (Casts i)) =
         and_then (part_at kind.TypeName part.TypeName i e)
         (λ u q. cond (cast_followed ts q e) (refused (refusal.CastFollowed q))
         (go_on f b (label kind.Cast 0 (label_of t).from q) (none then t then u) e))
-    from_tail f b t p e Stop = took t p
-    from_tail f b t p e (NoTail r) = refused r
+    from_tail f b t p e (Ok Stop) = took t p
+    from_tail f b t p e (Err r) = refused r
 
     abbrev pub from_items : Bool → ℕ → ℕ → Trees → ℕ → ℕ → ℕ → Outcome
     from_items f b from us p c e =

@@ -1,76 +1,85 @@
 // What follows an operand: an operator that takes it, the end of what is read here, or a refusal.
-ghost use Rattle.std.specs.Prelude.{◌≡◌, ℕ, ◌+◌, ◌-◌, ◌<◌, ◌≤◌};
+ghost use Rattle.std.specs.Prelude.{◌≡◌, ◌+◌, ◌≤◌};
+ghost use Rattle.operators.specs.declared.Sign.TheVariants.{Operator};
 ghost use Rattle.grammar.specs.Tails.{takes, tail_of, tail_at};
-ghost use Rattle.grammar.specs.Grammar.{kind_of, op_of, rank_by, comma_at, cast_followed};
+ghost use Rattle.grammar.specs.Grammar.{kind_of, op_of, comma_at, cast_followed};
 
-use super::Tail;
+use super::{COMPARISON, OPERAND_ONLY, RANGE, RANGE_END, Tail};
 use operators::{Infix, Sign, left_keeps, range_ends, rank, sign_at};
 use refusals::Refusal;
 use tokens::window::Window;
 use tokens::{Delimiter, Look};
 use trees::Kind;
 
-// An operator that takes the left operand; a half-open range may lack its end.
-fn takes_left(level: Window, structs: bool, op: Infix, marks: usize) -> Tail
-    requires { level.place + marks ≤ level.end }
-    ensures { result ≡ takes level.entry.tokens.now structs level.entry.place level.entry.end op marks }
-{
-    let next = level.place() + marks;
-    match op {
-        Infix::Cast => Tail::Casts(next),
-        Infix::Range(false) => {
-            if range_ends(level, next, structs) {
-                return Tail::Endless(next);
-            }
-            Tail::Takes(op, next)
+// An operator at the window's place, spelled in so many tokens, and whether a path before `{` is a struct there.
+#[derive(Clone, Copy)]
+struct Standing<'p, 't> {
+    level: Window<'p, 't>,
+    structs: bool,
+    op: Infix,
+    marks: usize,
+    ghost within: { level.place + marks ≤ level.end },
+}
+
+impl<'p, 't> Standing<'p, 't> {
+    // It takes the left operand; a half-open range may lack its end.
+    fn takes(self) -> Tail
+        ensures { result ≡ takes self.entry.level.tokens.now self.entry.structs self.entry.level.place self.entry.level.end self.entry.op self.entry.marks }
+    {
+        let next = self.level.place() + self.marks;
+        match self.op {
+            Infix::Cast => Tail::Casts(next),
+            Infix::Range(false) if range_ends(self.level, next, self.structs) => Tail::Endless(
+                next,
+            ),
+            op => Tail::Takes(op, next),
         }
-        _ => Tail::Takes(op, next),
+    }
+
+    // What it does behind a left operand of rank `left`, where ranks from `base` on are taken.
+    fn tail(self, base: u8, left: u8) -> Result<Tail, Refusal>
+        ensures { result ≡ tail_of self.entry.level.tokens.now self.entry.structs base left self.entry.level.place self.entry.level.end (Some (Operator self.entry.op self.entry.marks)) }
+    {
+        let own = rank(self.op);
+        if own < base {
+            return Ok(Tail::Stop);
+        }
+        if left == COMPARISON && own == COMPARISON {
+            return Err(Refusal::ComparisonChained(self.level.place()));
+        }
+        if left_keeps(left, own) {
+            return Ok(self.takes());
+        }
+        Err(Refusal::BindingBroken(self.level.place()))
     }
 }
 
-// What an operator does behind a left operand of rank `left`, where ranks from `base` on are taken.
-fn operator_tail(level: Window, structs: bool, base: u8, left: u8, op: Infix, marks: usize) -> Tail
-    requires { level.place + marks ≤ level.end }
-    ensures { result ≡ tail_of level.entry.tokens.now structs base left level.entry.place level.entry.end (Sign.Operator op marks) }
-{
-    let own = rank(op);
-    if own < base {
-        return Tail::Stop;
-    }
-    if left == 5 && own == 5 {
-        return Tail::NoTail(Refusal::ComparisonChained(level.place()));
-    }
-    if left_keeps(left, own) {
-        return takes_left(level, structs, op, marks);
-    }
-    Tail::NoTail(Refusal::BindingBroken(level.place()))
-}
-
-// What stands at the window's place, behind a left operand of rank `left` (0: not infix), where ranks from `base` on are taken.
-pub fn see_tail(level: Window, structs: bool, base: u8, left: u8) -> Tail
+// What stands at the window's place, behind a left operand of rank `left` (0: not infix), where
+// ranks from `base` on are taken.
+pub fn see_tail(level: Window, structs: bool, base: u8, left: u8) -> Result<Tail, Refusal>
     ensures { result ≡ tail_at level.entry.tokens.now structs base left level.entry.place level.entry.end }
 {
-    if left == 2 {
-        return Tail::Stop;
+    let place = level.place();
+    if left == RANGE {
+        return Ok(Tail::Stop);
     }
-    match sign_at(level, level.place()) {
-        Sign::Nothing => Tail::Stop,
-        Sign::Operator(op, marks) => operator_tail(level, structs, base, left, op, marks),
-        Sign::ThreeDots => {
-            if 2 < base {
-                return Tail::Stop;
-            }
-            Tail::NoTail(Refusal::ThreeDots(level.place()))
+    match sign_at(level, place) {
+        None => Ok(Tail::Stop),
+        Some(Sign::Operator(op, marks)) => {
+            let standing = Standing {
+                level,
+                structs,
+                op,
+                marks,
+            };
+            standing.tail(base, left)
         }
-        Sign::LeftArrow => {
-            if base == 13 {
-                return Tail::Stop;
-            }
-            if base == 3 && left == 0 {
-                return Tail::Stop;
-            }
-            Tail::NoTail(Refusal::LeftArrow(level.place()))
-        }
+        Some(Sign::ThreeDots) if RANGE < base => Ok(Tail::Stop),
+        Some(Sign::ThreeDots) => Err(Refusal::ThreeDots(place)),
+        Some(Sign::LeftArrow) => match (base, left) {
+            (OPERAND_ONLY, _) | (RANGE_END, 0) => Ok(Tail::Stop),
+            _ => Err(Refusal::LeftArrow(place)),
+        },
     }
 }
 
@@ -78,7 +87,7 @@ pub fn see_tail(level: Window, structs: bool, base: u8, left: u8) -> Tail
 pub fn comma(level: Window) -> bool
     ensures { result ≡ comma_at level.entry.tokens.now level.entry.place level.entry.end }
 {
-    level.mark(level.place()) == ','
+    level.mark(level.place()) == Some(',')
 }
 
 // Whether at the window's place stands what may not follow a cast.
@@ -87,12 +96,12 @@ pub fn cast_followed(level: Window) -> bool
 {
     let place = level.place();
     match level.mark(place) {
-        '.' => !level.two(place, '.', '.'),
-        '?' => true,
-        _ => match level.look(place) {
-            Some(Look::Open(Delimiter::Paren, _)) | Some(Look::Open(Delimiter::Bracket, _)) => true,
-            _ => false,
-        },
+        Some('.') => !level.two(place, '.', '.'),
+        Some('?') => true,
+        _ => matches!(
+            level.look(place),
+            Some(Look::Open(Delimiter::Paren | Delimiter::Bracket, _)),
+        ),
     }
 }
 
@@ -113,7 +122,7 @@ pub fn op_of(op: Infix) -> u32
     ensures { result ≡ op_of op }
 {
     match op {
-        Infix::Binary(code) => code as u32,
+        Infix::Binary(op) => u32::from(op.code()),
         Infix::Range(true) => 1,
         _ => 0,
     }

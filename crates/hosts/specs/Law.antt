@@ -1,10 +1,11 @@
 -- The answers of the host for statements are lawful. Assumes nothing.
-use Rattle.std.specs.Prelude.{◌≡◌, ℕ, zero, suc, ◌+◌, ◌<◌, ◌≤◌, Bool, true, false, List, [], ◌∷◌, length, drop, Some, Ok, Err, Result, ◌==◌, ◌≢◌, nat_eq, nat_lt}
+use Rattle.std.specs.Prelude.{◌≡◌, ℕ, zero, suc, ◌+◌, ◌<◌, ◌≤◌, Bool, true, false, List, ◌∷◌, length, drop, Some, Ok, Err, Result, ◌==◌, ◌≢◌, nat_eq, nat_lt}
 use Rattle.std.proofs.Common.{sym, ap, subst, ◌∙◌, arith, ltb-true, ltb-false}
-use Rattle.refusals.specs.declared.Denial.{Denial}
 use Rattle.std.specs.List.{slice_get}
+use Rattle.std.proofs.lemmas.Option.{slice_get_within}
 use Rattle.std.proofs.lemmas.List.{length-map, length-drop}
 use Rattle.std.proofs.lemmas.Bool.Decides.{nat_tests}
+use Rattle.refusals.specs.declared.Denial.{Denial}
 use Rattle.refusals.specs.declared.Part.{Part}
 use Rattle.refusals.specs.declared.Part.TheVariants.{Path, TypeName, Pattern, Block, Keyword, Arguments}
 use Rattle.tokens.specs.declared.Delimiter.{Delimiter}
@@ -14,8 +15,9 @@ use Rattle.tokens.specs.declared.Word.TheVariants.{Mut}
 use Rattle.tokens.specs.declared.Look.{Look}
 use Rattle.tokens.specs.declared.Look.TheVariants.{Name, Mark, Open}
 use Rattle.tokens.specs.Looks.{Field}
+use Rattle.hosts.specs.declared.statement.Role.{Role}
 use Rattle.hosts.specs.Lawful.{looks, Opens, Whole, LawfulLength, LawfulDenial, Lawful}
-use Rattle.hosts.specs.Runs.{colon, ampersand, less, greater, IsSegment, IsSegments, one_segment, more_segments, IsPath, relative, rooted, IsType, named, reference, mutable, IsGroup, group, IsAlone, alone, path_only, path_and_group, IsBlockWord, word_and_block, IsArguments, angled, IsRun}
+use Rattle.hosts.specs.Runs.{colon, ampersand, less, greater, IsSegments, one_segment, more_segments, IsPath, relative, rooted, IsType, named, reference, mutable, IsGroup, group, alone, path_only, path_and_group, word_and_block, IsArguments, angled, IsRun}
 use Rattle.hosts.specs.Statements.{look_role, length_of, answer, statement_reading}
 use Rattle.hosts.specs.Levels.{nth_drop}
 use Rattle.hosts.specs.Roles.{tested, segment_role, block_role, alone_role}
@@ -39,11 +41,6 @@ type_within _ _ (mutable j l n t) = omega (arith, type_within l n t)
 group_within : (d : Delimiter) (l : List Look) (n : ℕ) → IsGroup d l n → n ≤ length l
 group_within d _ _ (group l n some within) = within
 
-nth_within : (l : List Look) (n : ℕ) (a : Look) → slice_get l n ≡ Some a → n < length l
-nth_within [] n a e = let z : ◌≡◌ {A = ℕ} 0 1 = cc in absurd (omega arith)
-nth_within (x ∷ l) zero a e = omega arith
-nth_within (x ∷ l) (suc n) a e = omega (arith, nth_within l n a e)
-
 run_within : (part : Part) (l : List Look) (n : ℕ) → IsRun part l n → n ≤ length l
 run_within Path l n p = path_within l n p
 run_within TypeName l n t = type_within l n t
@@ -52,7 +49,7 @@ run_within Pattern _ _ (path_only l n p) = path_within l n p
 run_within Pattern _ _ (path_and_group l n m p g) = omega (arith, path_within l n p, group_within Paren (drop n l) m g, length-drop n l)
 run_within Block l n b = group_within Brace l n b
 run_within Keyword _ _ (word_and_block w l n h b) = omega (arith, group_within Brace l n b)
-run_within Arguments _ _ (angled i j k l n t close) = omega (arith, nth_within l n (Mark greater k) close)
+run_within Arguments _ _ (angled i j k l n t close) = omega (arith, slice_get_within l n (Mark greater k) close)
 
 -- A run takes its groups whole
 
@@ -64,31 +61,13 @@ abbrev Plain : List Look → ℕ → Type 0
 Plain l n = (k m : ℕ) → Opens l k m → k < n → ⊥
 
 mark_shut : (c : ℕ) (j : Bool) → Shut (Mark c j)
-mark_shut c j d m e = let z : ◌≡◌ {A = ℕ} 0 1 = cc in omega arith
+mark_shut c j d m e = cc
 
 name_shut : (w : Word) → Shut (Name w)
-name_shut w d m e = let z : ◌≡◌ {A = ℕ} 0 1 = cc in omega arith
+name_shut w d m e = cc
 
-segment_shut : (a : Look) → IsSegment a → Shut a
-segment_shut a h d m e =
-    let r = segment_role a h in
-    let s : look_role a ≡ look_role (Open d m) = ap look_role e in
-    let z : ◌≡◌ {A = ℕ} 0 1 = cc in
-    omega arith
-
-block_shut : (a : Look) → IsBlockWord a → Shut a
-block_shut a h d m e =
-    let r = block_role a h in
-    let s : look_role a ≡ look_role (Open d m) = ap look_role e in
-    let z : ◌≡◌ {A = ℕ} 0 1 = cc in
-    omega arith
-
-alone_shut : (a : Look) → IsAlone a → Shut a
-alone_shut a h d m e =
-    let r = alone_role a h in
-    let s : look_role a ≡ look_role (Open d m) = ap look_role e in
-    let z : ◌≡◌ {A = ℕ} 0 1 = cc in
-    omega arith
+role_shut : (a : Look) (r : Role) → look_role a ≡ Some r → Shut a
+role_shut a r role d m e = let same : look_role a ≡ look_role (Open d m) = ap look_role e in cc
 
 plain_none : (l : List Look) → Plain l 0
 plain_none l k m o h = omega arith
@@ -105,9 +84,9 @@ colons_plain j l n rest =
     plain_more (Mark colon true) (Mark colon j ∷ l) (1 + n) (2 + n) (mark_shut colon true) (plain_more (Mark colon j) l n (1 + n) (mark_shut colon j) rest (omega arith)) (omega arith)
 
 segments_plain : (l : List Look) (n : ℕ) → IsSegments l n → Plain l n
-segments_plain _ _ (one_segment s l h) = plain_more s l 0 1 (segment_shut s h) (plain_none l) (omega arith)
+segments_plain _ _ (one_segment s l h) = plain_more s l 0 1 (role_shut s _ (segment_role s h)) (plain_none l) (omega arith)
 segments_plain _ _ (more_segments s j l n h r) =
-    plain_more s (Mark colon true ∷ Mark colon j ∷ l) (2 + n) (3 + n) (segment_shut s h) (colons_plain j l n (segments_plain l n r)) (omega arith)
+    plain_more s (Mark colon true ∷ Mark colon j ∷ l) (2 + n) (3 + n) (role_shut s _ (segment_role s h)) (colons_plain j l n (segments_plain l n r)) (omega arith)
 
 path_plain : (l : List Look) (n : ℕ) → IsPath l n → Plain l n
 path_plain _ _ (relative l n r) = segments_plain l n r
@@ -154,15 +133,15 @@ group_whole l i n inner plain opens k m o h =
 run_whole : (part : Part) (l : List Look) (n : ℕ) → IsRun part l n → Inner l → Whole l n
 run_whole Path l n p inner = plain_whole l n (path_plain l n p)
 run_whole TypeName l n t inner = plain_whole l n (type_plain l n t)
-run_whole Pattern _ _ (alone a l h) inner = plain_whole (a ∷ l) 1 (plain_more a l 0 1 (alone_shut a h) (plain_none l) (omega arith))
+run_whole Pattern _ _ (alone a l h) inner = plain_whole (a ∷ l) 1 (plain_more a l 0 1 (role_shut a _ (alone_role a h)) (plain_none l) (omega arith))
 run_whole Pattern _ _ (path_only l n p) inner = plain_whole l n (path_plain l n p)
 run_whole Pattern _ _ (path_and_group l n m p g) inner =
     group_whole l n m inner (path_plain l n p) (Paren, sym (nth_drop n l) ∙ group_first Paren (drop n l) m g)
 run_whole Block l n b inner =
     let none : 0 + n ≡ n = omega arith in
-    subst (λ (k : ℕ). Whole l k) none (group_whole l 0 n inner (plain_none l) (Brace, group_first Brace l n b))
+    subst (Whole l) none (group_whole l 0 n inner (plain_none l) (Brace, group_first Brace l n b))
 run_whole Keyword _ _ (word_and_block w l n h b) inner =
-    group_whole (w ∷ l) 1 n inner (plain_more w l 0 1 (block_shut w h) (plain_none l) (omega arith)) (Brace, group_first Brace l n b)
+    group_whole (w ∷ l) 1 n inner (plain_more w l 0 1 (role_shut w _ (block_role w h)) (plain_none l) (omega arith)) (Brace, group_first Brace l n b)
 run_whole Arguments l n a inner = plain_whole l n (arguments_plain l n a)
 
 pub statement_lawful : (part : Part) (l : List Field) → Lawful l (statement_reading part l)

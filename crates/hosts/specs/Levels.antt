@@ -1,6 +1,7 @@
 -- The levels of a window and their looks, place by place, as the window's methods show them. Assumes nothing.
 use Rattle.std.specs.Prelude.{◌≡◌, ℕ, zero, suc, ◌+◌, ◌-◌, ◌<◌, ◌≤◌, Bool, true, false, cond, ◌&&◌, List, [], ◌∷◌, map, length, get_or, take, drop, Some, None, ◌==◌, nat_lt, slice_index_or, slice_range, refl}
 use Rattle.std.proofs.Common.{sym, ap, ◌∙◌, sub-eq-zero_of_le, arith, drop-cons, ltb-true, ltb-false}
+use Rattle.std.proofs.Math.Bool.{and-false}
 use Rattle.std.proofs.lemmas.List.{drop-take, drop-drop, drop-map, drop_all, length-map, length-take, length-drop}
 use Rattle.std.specs.List.{slice_get}
 use Rattle.tokens.specs.declared.Look.{Look}
@@ -51,7 +52,7 @@ looks_cons : (ts : List Token) (p e : ℕ) → p < e → e ≤ length ts → loo
 unfolding looks_from
 looks_cons = seen_cons look
 
-looks_none : (ts : List Token) (p e : ℕ) → e ≤ p → looks_from ts p e ≡ []
+pub looks_none : (ts : List Token) (p e : ℕ) → e ≤ p → looks_from ts p e ≡ []
 unfolding looks_from
 looks_none = seen_none look
 
@@ -87,18 +88,13 @@ first_joined (a ∷ l) = joined_of a
 joined_first : (ts : List Token) (p e : ℕ) → e ≤ length ts → joined_at ts e p ≡ first_joined (looks_from ts p e)
 joined_first = by_first joined_of false first_joined refl (λ a l. refl)
 
-never : (x y : Bool) → (x && (y && false)) ≡ false
-never true true = refl
-never true false = refl
-never false y = refl
-
 pub colons_first : (ts : List Token) (p e : ℕ) → e ≤ length ts → two_at ts e p 58 58 ≡ colons (looks_from ts p e)
 colons_first ts p e h =
     simp (mark_first ts p e h, joined_first ts p e h, mark_first ts (p + 1) e h, looks_drop ts p e 1) (spelled (looks_from ts p e))
   where
     spelled : (l : List Look) → (first_mark l == 58 && (first_joined l && first_mark (drop 1 l) == 58)) ≡ colons l
     spelled [] = refl
-    spelled (a ∷ []) = never (mark_of a == 58) (joined_of a)
+    spelled (a ∷ []) = simp and-false
     spelled (a ∷ b ∷ l) = refl
 
 -- A token that is told from nothing stands before the end

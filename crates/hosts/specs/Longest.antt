@@ -8,27 +8,24 @@ use Rattle.refusals.specs.declared.Part.TheVariants.{Path, TypeName, Pattern, Bl
 use Rattle.tokens.specs.declared.Delimiter.{Delimiter}
 use Rattle.tokens.specs.declared.Delimiter.TheVariants.{Paren, Bracket, Brace}
 use Rattle.tokens.specs.declared.Look.{Look}
-use Rattle.tokens.specs.declared.Look.TheVariants.{Name, Mark, Integer, Float, Literal, Lifetime, Open, Close}
+use Rattle.tokens.specs.declared.Look.TheVariants.{Mark, Open}
 use Rattle.tokens.specs.Looks.{Field, mark_of, joined_of}
+use Rattle.hosts.specs.declared.statement.Role.TheVariants.{BlockWord, Alone}
 use Rattle.hosts.specs.Lawful.{looks}
 use Rattle.hosts.specs.Runs.{colon, less, greater, IsGroup, group, IsPattern, alone, path_only, path_and_group, IsKeyword, word_and_block, IsArguments, angled, IsRun, LongestRun}
-use Rattle.hosts.specs.Statements.{look_role, first_mark, is_alone, is_block_word, colons, behind, path_length, type_length, same_delimiter, open_length, group_length, keyword_length, enclosed, arguments_length, with_group, pattern_length, length_of, answer, statement_reading}
+use Rattle.hosts.specs.Statements.{look_role, first_mark, colons, behind, path_length, type_length, same_delimiter, open_length, group_length, keyword_length, enclosed, arguments_length, with_group, pattern_length, length_of, answer, statement_reading, has_role}
 use Rattle.hosts.specs.Levels.{nth_drop}
-use Rattle.hosts.specs.Roles.{false_true, tested, block_look, block_role, alone_look, alone_role, mark_look_lem}
+use Rattle.hosts.specs.Roles.{tested, block_role, alone_role, mark_look_lem, role_look}
+use Rattle.hosts.specs.Steps.{behind_parts, behind_whole}
 use Rattle.hosts.specs.Paths.{colons_look, marked, Reaches, path_found, path_reach, path_first, type_found, type_reach}
 
 -- Groups
 
 same : (d e : Delimiter) → same_delimiter d e ≡ true → d ≡ e
 same Paren Paren t = refl
-same Paren Bracket t = false_true t
-same Paren Brace t = false_true t
-same Bracket Paren t = false_true t
 same Bracket Bracket t = refl
-same Bracket Brace t = false_true t
-same Brace Paren t = false_true t
-same Brace Bracket t = false_true t
 same Brace Brace t = refl
+same _ _ t = cc
 
 itself : (d : Delimiter) → same_delimiter d d ≡ true
 itself Paren = refl
@@ -36,12 +33,6 @@ itself Bracket = refl
 itself Brace = refl
 
 opened : (d : Delimiter) (a : Look) → 0 < open_length d a → a ≡ Open d (open_length d a)
-opened d (Name w) h = absurd (omega arith)
-opened d (Mark c j) h = absurd (omega arith)
-opened d Integer h = absurd (omega arith)
-opened d Float h = absurd (omega arith)
-opened d Literal h = absurd (omega arith)
-opened d Lifetime h = absurd (omega arith)
 opened d (Open e n) h = tested (same_delimiter d e) yes no
   where
     yes : same_delimiter d e ≡ true → Open e n ≡ Open d (open_length d (Open e n))
@@ -49,7 +40,7 @@ opened d (Open e n) h = tested (same_delimiter d e) yes no
 
     no : same_delimiter d e ≡ false → Open e n ≡ Open d (open_length d (Open e n))
     no t = let none : open_length d (Open e n) ≡ 0 = rw t in absurd (omega arith)
-opened d (Close e) h = absurd (omega arith)
+opened _ _ h = absurd (omega arith)
 
 fits : (n k : ℕ) → 0 < cond (nat_le n k) n 0 → (n ≡ cond (nat_le n k) n 0) × (0 < n) × (n ≤ k)
 fits n k h = (grind (arith, nat_tests), grind (arith, nat_tests), grind (arith, nat_tests))
@@ -58,7 +49,7 @@ group_found : (d : Delimiter) (l : List Look) → 0 < group_length d l → IsGro
 group_found d [] h = absurd (omega arith)
 group_found d (a ∷ l) h =
     let f = fits (open_length d a) (length (a ∷ l)) h in
-    subst (λ (n : ℕ). IsGroup d (a ∷ l) n) f.0
+    subst (IsGroup d (a ∷ l)) f.0
     (subst (λ (x : Look). IsGroup d (x ∷ l) (open_length d a)) (sym (opened d a f.1)) (group l (open_length d a) f.1 f.2))
 
 group_only : (d : Delimiter) (l : List Look) (n : ℕ) → IsGroup d l n → (1 ≤ n) × (n ≡ group_length d l)
@@ -70,27 +61,21 @@ group_only d _ _ (group l n some within) =
 
 keyword_found : (l : List Look) → 0 < keyword_length l → IsKeyword l (keyword_length l)
 keyword_found [] h = absurd (omega arith)
-keyword_found (w ∷ l) h = tested (is_block_word (look_role w)) yes no
+keyword_found (w ∷ l) h = tested (has_role BlockWord (look_role w)) yes no
   where
-    sum : (k : ℕ) → keyword_length (w ∷ l) ≡ behind 1 k → (0 < k) × (1 + k ≡ keyword_length (w ∷ l))
-    sum k e = (grind (arith, nat_tests), grind (arith, nat_tests))
-
-    yes : is_block_word (look_role w) ≡ true → IsKeyword (w ∷ l) (keyword_length (w ∷ l))
+    yes : has_role BlockWord (look_role w) ≡ true → IsKeyword (w ∷ l) (keyword_length (w ∷ l))
     yes t =
-        let s = sum (group_length Brace l) (rw t) in
-        subst (λ (n : ℕ). IsKeyword (w ∷ l) n) s.1 (word_and_block w l _ (block_look w t) (group_found Brace l s.0))
+        let s = behind_parts 1 (group_length Brace l) (keyword_length (w ∷ l)) (rw t) h in
+        subst (IsKeyword (w ∷ l)) s.1 (word_and_block w l _ (role_look BlockWord w t) (group_found Brace l s.0))
 
-    no : is_block_word (look_role w) ≡ false → IsKeyword (w ∷ l) (keyword_length (w ∷ l))
+    no : has_role BlockWord (look_role w) ≡ false → IsKeyword (w ∷ l) (keyword_length (w ∷ l))
     no t = let none : keyword_length (w ∷ l) ≡ 0 = rw t in absurd (omega arith)
 
 keyword_most : (l : List Look) (n : ℕ) → IsKeyword l n → (1 ≤ n) × (n ≤ keyword_length l)
 keyword_most _ _ (word_and_block w l n h b) =
     let g = group_only Brace l n b in
-    let whole : keyword_length (w ∷ l) ≡ behind 1 (group_length Brace l) = rw (ap is_block_word (block_role w h)) in
-    (omega arith, at (group_length Brace l) g.0 g.1 whole)
-  where
-    at : (k : ℕ) → 1 ≤ n → n ≡ k → keyword_length (w ∷ l) ≡ behind 1 k → 1 + n ≤ keyword_length (w ∷ l)
-    at k some e whole = grind (arith, nat_tests)
+    let whole : keyword_length (w ∷ l) ≡ behind 1 (group_length Brace l) = rw (ap (has_role BlockWord) (block_role w h)) in
+    (omega arith, omega (arith, g.1, behind_whole 1 _ _ whole (omega (arith, g.0, g.1))))
 
 -- Patterns
 
@@ -99,27 +84,27 @@ group_first d _ _ (group l n some within) = refl
 
 pattern_found : (l : List Look) → 0 < pattern_length l → IsPattern l (pattern_length l)
 pattern_found [] h = absurd (omega arith)
-pattern_found (a ∷ l) h = tested (is_alone (look_role a)) yes no
+pattern_found (a ∷ l) h = tested (has_role Alone (look_role a)) yes no
   where
-    yes : is_alone (look_role a) ≡ true → IsPattern (a ∷ l) (pattern_length (a ∷ l))
-    yes t = rw t (alone a l (alone_look a t))
+    yes : has_role Alone (look_role a) ≡ true → IsPattern (a ∷ l) (pattern_length (a ∷ l))
+    yes t = rw t (alone a l (role_look Alone a t))
 
     parts : (n m : ℕ) → pattern_length (a ∷ l) ≡ cond (n == 0) 0 (n + m) → (0 < n) × (n + m ≡ pattern_length (a ∷ l))
     parts n m e = (grind (arith, nat_tests), grind (arith, nat_tests))
 
-    no : is_alone (look_role a) ≡ false → IsPattern (a ∷ l) (pattern_length (a ∷ l))
+    no : has_role Alone (look_role a) ≡ false → IsPattern (a ∷ l) (pattern_length (a ∷ l))
     no t =
         let n : ℕ = path_length (a ∷ l) in
         let m : ℕ = group_length Paren (drop n (a ∷ l)) in
         let s = parts n m (rw t) in
         let path = path_found (a ∷ l) s.0 in
         tested (m == 0)
-        (λ z. subst (λ (k : ℕ). IsPattern (a ∷ l) k) (grind (arith, nat_tests)) (path_only (a ∷ l) n path))
-        (λ z. subst (λ (k : ℕ). IsPattern (a ∷ l) k) s.1 (path_and_group (a ∷ l) n m path (group_found Paren (drop n (a ∷ l)) (grind (arith, nat_tests)))))
+        (λ z. subst (IsPattern (a ∷ l)) (grind (arith, nat_tests)) (path_only (a ∷ l) n path))
+        (λ z. subst (IsPattern (a ∷ l)) s.1 (path_and_group (a ∷ l) n m path (group_found Paren (drop n (a ∷ l)) (grind (arith, nat_tests)))))
 
 pattern_most : (l : List Look) (n : ℕ) → IsPattern l n → (1 ≤ n) × (n ≤ pattern_length l)
 pattern_most _ _ (alone a l h) =
-    let whole : pattern_length (a ∷ l) ≡ 1 = rw (ap is_alone (alone_role a h)) in
+    let whole : pattern_length (a ∷ l) ≡ 1 = rw (ap (has_role Alone) (alone_role a h)) in
     (omega arith, omega arith)
 pattern_most _ _ (path_only l n p) =
     let r = path_reach l n p in
@@ -142,7 +127,7 @@ pattern_most _ _ (path_and_group l n m p g) =
         grind (arith, nat_tests)
 
     apart : slice_get l n ≡ Some (Mark colon true) → slice_get l n ≢ Some (Open Paren m)
-    apart a b = let z : ◌≡◌ {A = ℕ} 0 1 = cc in omega arith
+    apart a b = cc
 
 -- Arguments
 
@@ -173,7 +158,7 @@ arguments_found (a ∷ b ∷ c ∷ l) h =
     let f = all_true (colons (a ∷ b ∷ c ∷ l)) (mark_of c == less) (first_mark (drop n l) == greater) n h in
     let close = first_mark_lem (drop n l) greater (omega arith) f.2 in
     let run = angled (joined_of b) (joined_of c) close.0 l n (type_found l f.3) (sym (nth_drop n l) ∙ close.1) in
-    subst (λ (k : ℕ). IsArguments (a ∷ b ∷ c ∷ l) k) f.4
+    subst (IsArguments (a ∷ b ∷ c ∷ l)) f.4
     (marked IsArguments a b (c ∷ l) _ (colons_look a b (c ∷ l) f.0)
     (subst (λ (x : Look). IsArguments (Mark colon true ∷ Mark colon (joined_of b) ∷ x ∷ l) (4 + n)) (sym (mark_look_lem c less (omega arith) f.1)) run))
 
@@ -186,7 +171,7 @@ arguments_most _ _ (angled i j k l n t close) =
     shut = at (drop n l) (nth_drop n l ∙ close)
       where
         at : (xs : List Look) → slice_get xs 0 ≡ Some (Mark greater k) → (first_mark xs == greater) ≡ true
-        at [] e = let z : ◌≡◌ {A = ℕ} 0 1 = cc in absurd (omega arith)
+        at [] e = cc
         at (x ∷ xs) e = let is : x ≡ Mark greater k = cc in ap (λ y. nat_eq (mark_of y) greater) is
 
     all : (m : ℕ) → Reaches l n m → n ≡ m → m ≡ type_length l → 4 + n ≤ arguments_length (Mark colon true ∷ Mark colon i ∷ Mark less j ∷ l)

@@ -1,19 +1,19 @@
 -- The reading of the host for statements: the length of the longest run of a part, computed from the looks of a level.
 -- Assumes nothing.
-use Rattle.std.specs.Prelude.{ℕ, ◌+◌, ◌-◌, Bool, true, false, cond, ◌&&◌, List, [], ◌∷◌, map, length, take, drop, Ok, Err, Result, ◌==◌, nat_le}
+use Rattle.std.specs.Prelude.{ℕ, ◌+◌, ◌-◌, Bool, true, false, cond, ◌&&◌, List, [], ◌∷◌, map, length, take, drop, Some, None, Option, Ok, Err, Result, ◌==◌, nat_le}
 use Rattle.refusals.specs.declared.Denial.{Denial}
 use Rattle.refusals.specs.declared.Part.{Part}
 use Rattle.refusals.specs.declared.Part.TheVariants.{Path, TypeName, Pattern, Block, Keyword, Arguments}
 use Rattle.tokens.specs.declared.Delimiter.{Delimiter}
 use Rattle.tokens.specs.declared.Delimiter.TheVariants.{Paren, Bracket, Brace}
 use Rattle.tokens.specs.declared.Word.{Word}
-use Rattle.tokens.specs.declared.Word.TheVariants.{Plain, Raw, True, False, Underscore, SelfValue, SelfType, Super, Crate, Mut, Const, As, Let, If, Else, While, Break, Continue, Return, Await, Try, Async, Become, For, Loop, Match, Move, Static, Unsafe, Yield, Reserved}
+use Rattle.tokens.specs.declared.Word.TheVariants.{Plain, Raw, True, False, Underscore, SelfValue, SelfType, Super, Crate, Mut, Const, Try, Async, Loop, Unsafe}
 use Rattle.tokens.specs.declared.Look.{Look}
-use Rattle.tokens.specs.declared.Look.TheVariants.{Name, Mark, Integer, Float, Literal, Lifetime, Open, Close}
+use Rattle.tokens.specs.declared.Look.TheVariants.{Name, Integer, Float, Literal, Open}
 use Rattle.tokens.specs.declared.Token.{Token}
 use Rattle.tokens.specs.Looks.{Field, mark_of, joined_of}
 use Rattle.hosts.specs.declared.statement.Role.{Role}
-use Rattle.hosts.specs.declared.statement.Role.TheVariants.{Segment, BlockWord, Alone, Mutable, Other}
+use Rattle.hosts.specs.declared.statement.Role.TheVariants.{Segment, BlockWord, Alone, Mutable}
 use Rattle.hosts.specs.Lawful.{looks}
 use Rattle.hosts.specs.Runs.{colon, ampersand, less, greater}
 
@@ -21,86 +21,48 @@ use Rattle.hosts.specs.Runs.{colon, ampersand, less, greater}
 unfoldable pub looks_from : List Token → ℕ → ℕ → List Look
 looks_from ts p e = map (λ t. t.look) (take (e - p) (drop p ts))
 
--- what a token may be in a run, by its word and by its look
-abbrev pub word_role : Word → Role
-word_role Plain = Segment
-word_role Raw = Segment
-word_role True = Alone
-word_role False = Alone
-word_role Underscore = Alone
-word_role SelfValue = Segment
-word_role SelfType = Segment
-word_role Super = Segment
-word_role Crate = Segment
-word_role Mut = Mutable
-word_role Const = BlockWord
-word_role As = Other
-word_role Let = Other
-word_role If = Other
-word_role Else = Other
-word_role While = Other
-word_role Break = Other
-word_role Continue = Other
-word_role Return = Other
-word_role Await = Other
-word_role Try = BlockWord
-word_role Async = BlockWord
-word_role Become = Other
-word_role For = Other
-word_role Loop = BlockWord
-word_role Match = Other
-word_role Move = Other
-word_role Static = Other
-word_role Unsafe = BlockWord
-word_role Yield = Other
-word_role Reserved = Other
+-- what a token may be in a run, if anything, by its word and by its look
+abbrev pub word_role : Word → Option Role
+word_role Plain = Some Segment
+word_role Raw = Some Segment
+word_role True = Some Alone
+word_role False = Some Alone
+word_role Underscore = Some Alone
+word_role SelfValue = Some Segment
+word_role SelfType = Some Segment
+word_role Super = Some Segment
+word_role Crate = Some Segment
+word_role Mut = Some Mutable
+word_role Const = Some BlockWord
+word_role Try = Some BlockWord
+word_role Async = Some BlockWord
+word_role Loop = Some BlockWord
+word_role Unsafe = Some BlockWord
+word_role _ = None
 
-abbrev pub look_role : Look → Role
+abbrev pub look_role : Look → Option Role
 look_role (Name w) = word_role w
-look_role (Mark c j) = Other
-look_role Integer = Alone
-look_role Float = Alone
-look_role Literal = Alone
-look_role Lifetime = Other
-look_role (Open d n) = Other
-look_role (Close d) = Other
+look_role Integer = Some Alone
+look_role Float = Some Alone
+look_role Literal = Some Alone
+look_role _ = None
 
 -- of the first token of a level
-abbrev pub first_role : List Look → Role
-first_role [] = Other
+abbrev pub first_role : List Look → Option Role
+first_role [] = None
 first_role (a ∷ l) = look_role a
 
 abbrev pub first_mark : List Look → ℕ
 first_mark [] = 0
 first_mark (a ∷ l) = mark_of a
 
-abbrev pub is_segment : Role → Bool
-is_segment Segment = true
-is_segment BlockWord = false
-is_segment Alone = false
-is_segment Mutable = false
-is_segment Other = false
-
-abbrev pub is_mutable : Role → Bool
-is_mutable Segment = false
-is_mutable BlockWord = false
-is_mutable Alone = false
-is_mutable Mutable = true
-is_mutable Other = false
-
-abbrev pub is_alone : Role → Bool
-is_alone Segment = false
-is_alone BlockWord = false
-is_alone Alone = true
-is_alone Mutable = false
-is_alone Other = false
-
-abbrev pub is_block_word : Role → Bool
-is_block_word Segment = false
-is_block_word BlockWord = true
-is_block_word Alone = false
-is_block_word Mutable = false
-is_block_word Other = false
+-- whether that is a certain role
+abbrev pub has_role : Role → Option Role → Bool
+has_role Segment (Some Segment) = true
+has_role BlockWord (Some BlockWord) = true
+has_role Alone (Some Alone) = true
+has_role Mutable (Some Mutable) = true
+has_role _ _ = false
 
 -- whether `::` stands first
 abbrev pub colons : List Look → Bool
@@ -117,10 +79,10 @@ abbrev pub further : List Look → ℕ
 further [] = 0
 further (a ∷ []) = 0
 further (a ∷ b ∷ []) = 0
-further (a ∷ b ∷ s ∷ l) = cond (colons (a ∷ b ∷ []) && is_segment (look_role s)) (3 + further l) 0
+further (a ∷ b ∷ s ∷ l) = cond (colons (a ∷ b ∷ []) && has_role Segment (look_role s)) (3 + further l) 0
 
 abbrev pub segments_length : List Look → ℕ
-segments_length l = cond (is_segment (first_role l)) (1 + further (drop 1 l)) 0
+segments_length l = cond (has_role Segment (first_role l)) (1 + further (drop 1 l)) 0
 
 abbrev pub path_length : List Look → ℕ
 path_length l = cond (colons l) (behind 2 (segments_length (drop 2 l))) (segments_length l)
@@ -129,39 +91,28 @@ path_length l = cond (colons l) (behind 2 (segments_length (drop 2 l))) (segment
 abbrev pub references : List Look → ℕ
 references [] = 0
 references (a ∷ []) = cond (mark_of a == ampersand) 1 0
-references (a ∷ b ∷ l) = cond (mark_of a == ampersand) (cond (is_mutable (look_role b)) (2 + references l) (1 + references (b ∷ l))) 0
+references (a ∷ b ∷ l) = cond (mark_of a == ampersand) (cond (has_role Mutable (look_role b)) (2 + references l) (1 + references (b ∷ l))) 0
 
 abbrev pub type_length : List Look → ℕ
 type_length l = behind (references l) (path_length (drop (references l) l))
 
 abbrev pub same_delimiter : Delimiter → Delimiter → Bool
 same_delimiter Paren Paren = true
-same_delimiter Paren Bracket = false
-same_delimiter Paren Brace = false
-same_delimiter Bracket Paren = false
 same_delimiter Bracket Bracket = true
-same_delimiter Bracket Brace = false
-same_delimiter Brace Paren = false
-same_delimiter Brace Bracket = false
 same_delimiter Brace Brace = true
+same_delimiter _ _ = false
 
 -- how many tokens a group has that begins with this look
 abbrev pub open_length : Delimiter → Look → ℕ
-open_length d (Name w) = 0
-open_length d (Mark c j) = 0
-open_length d Integer = 0
-open_length d Float = 0
-open_length d Literal = 0
-open_length d Lifetime = 0
 open_length d (Open e n) = cond (same_delimiter d e) n 0
-open_length d (Close e) = 0
+open_length _ _ = 0
 
 abbrev pub group_length : Delimiter → List Look → ℕ
 group_length d [] = 0
 group_length d (a ∷ l) = cond (nat_le (open_length d a) (length (a ∷ l))) (open_length d a) 0
 
 abbrev pub keyword_length : List Look → ℕ
-keyword_length l = cond (is_block_word (first_role l)) (behind 1 (group_length Brace (drop 1 l))) 0
+keyword_length l = cond (has_role BlockWord (first_role l)) (behind 1 (group_length Brace (drop 1 l))) 0
 
 -- a type of n tokens between `<` and `>`
 abbrev pub enclosed : ℕ → List Look → ℕ
@@ -178,7 +129,7 @@ abbrev pub with_group : ℕ → List Look → ℕ
 with_group n l = cond (n == 0) 0 (n + group_length Paren (drop n l))
 
 abbrev pub pattern_length : List Look → ℕ
-pattern_length l = cond (is_alone (first_role l)) 1 (with_group (path_length l) l)
+pattern_length l = cond (has_role Alone (first_role l)) 1 (with_group (path_length l) l)
 
 abbrev pub length_of : Part → List Look → ℕ
 length_of Path = path_length
@@ -187,6 +138,10 @@ length_of Pattern = pattern_length
 length_of Block = group_length Brace
 length_of Keyword = keyword_length
 length_of Arguments = arguments_length
+
+-- what a function answers for a length: nothing where there is no run
+abbrev pub found : ℕ → Option ℕ
+found n = cond (n == 0) None (Some n)
 
 -- what the host, whose number is 2, makes of a length
 abbrev pub answer : ℕ → Result ℕ Denial

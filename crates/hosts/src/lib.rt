@@ -1,5 +1,5 @@
-// The interface by which the reading of an expression asks for paths, types, patterns, blocks, keyword expressions and arguments, and the host for
-// statements.
+// The interface by which the reading of an expression asks for paths, types, patterns, blocks, keyword expressions and
+// arguments, and the host for statements.
 #![tactic(auto)]
 
 ghost use Rattle.std.specs.Prelude.{◌≡◌, ℕ, List, Result};
@@ -22,7 +22,7 @@ pub trait Host {
 
     ghost reading: { Self → Part → List Field → Result ℕ Denial };
 
-    // The number of this host.
+    // The number of this host. Each `impl` says it anew, since no law of the trait can name a constant.
     fn own() -> u8
         ensures { result ≡ host_number };
 

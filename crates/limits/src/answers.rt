@@ -7,20 +7,13 @@ use std::io::Write;
 // Of a sheet with more nodes only the last one is shown.
 const MOST_SHOWN: usize = 40;
 
-pub fn show_heading(line: &str, out: &mut Vec<u8>) -> anyhow::Result<()> {
-    out.extend_from_slice(line.as_bytes())?;
-    out.push(b'\n')?;
-    Ok(())
-}
-
 // Writes `ok`, the rule's number, how many nodes the sheet has, and their lines with `;` between.
 pub fn show_sheet(sheet: &Sheet, rule: usize, out: &mut Vec<u8>) -> anyhow::Result<()> {
     let (_, nodes) = sheet.totals();
     write!(out, "ok {rule} {nodes}")?;
     let first = if nodes > MOST_SHOWN { nodes - 1 } else { 0 };
     for i in first..nodes {
-        let before = if i == first { b' ' } else { b';' };
-        out.push(before)?;
+        out.push(if i == first { b' ' } else { b';' })?;
         show_node(sheet, i, out)?;
     }
     out.push(b'\n')?;
@@ -32,9 +25,8 @@ fn show_node(sheet: &Sheet, i: usize, out: &mut Vec<u8>) -> anyhow::Result<()> {
     let mut line = [0; 32];
     match sheet.line(i, &mut line) {
         Ok(n) => {
-            if n > 0 && n <= 32 {
-                out.extend_from_slice(&line[0..n - 1])?;
-            }
+            let text = line.get(..n).unwrap_or_default();
+            out.extend_from_slice(text.trim_ascii_end())?;
             Ok(())
         }
         Err(refusal) => show_refusal(refusal, out),
@@ -44,9 +36,7 @@ fn show_node(sheet: &Sheet, i: usize, out: &mut Vec<u8>) -> anyhow::Result<()> {
 pub fn show_refusal(refusal: Refusal, out: &mut Vec<u8>) -> anyhow::Result<()> {
     let mut line = [0; 64];
     let n = refusal_line(refusal, &mut line);
-    if n <= 64 {
-        out.extend_from_slice(&line[0..n])?;
-    }
+    out.extend_from_slice(line.get(..n).unwrap_or_default())?;
     Ok(())
 }
 

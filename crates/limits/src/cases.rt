@@ -1,7 +1,7 @@
 // Cases, as they are written on a line.
 ghost use Rattle.std.specs.Prelude.{◌<◌, IfOk};
 
-use anyhow::anyhow;
+use anyhow::{Context, bail};
 
 // How many nodes, rules and tokens the lent spaces have.
 #[derive(Clone, Copy)]
@@ -13,10 +13,7 @@ pub struct Sizes {
 
 // What stands before the first space, and what stands behind it.
 pub fn parts(case: &str) -> anyhow::Result<(&str, &str)> {
-    match case.split_once(' ') {
-        Some(both) => Ok(both),
-        None => Err(anyhow!("a part is missing")),
-    }
+    case.split_once(' ').context("a part is missing")
 }
 
 // The three sizes at the front of a case, and what stands behind them.
@@ -24,27 +21,24 @@ pub fn sizes_of(case: &str) -> anyhow::Result<(Sizes, &str)> {
     let (nodes, rest) = parts(case)?;
     let (rules, rest) = parts(rest)?;
     let (tokens, rest) = parts(rest)?;
-    let nodes = nodes.parse::<usize>()?;
-    let rules = rules.parse::<usize>()?;
-    let tokens = tokens.parse::<usize>()?;
     Ok((
         Sizes {
-            nodes,
-            rules,
-            tokens,
+            nodes: nodes.parse()?,
+            rules: rules.parse()?,
+            tokens: tokens.parse()?,
         },
         rest,
     ))
 }
 
-// The value of a digit of a hexadecimal number.
+// The value of a digit of a hexadecimal number. `to_digit` would take capital letters too.
 fn digit(b: u8) -> anyhow::Result<u8>
     ensures { IfOk result (λ d. d < 16) }
 {
     match b {
         b'0'..=b'9' => Ok(b - b'0'),
         b'a'..=b'f' => Ok(b - b'a' + 10),
-        _ => Err(anyhow!("no digit")),
+        _ => bail!("no digit"),
     }
 }
 
@@ -52,7 +46,7 @@ fn digit(b: u8) -> anyhow::Result<u8>
 fn add_bytes(pairs: &[u8], page: &mut Vec<u8>) -> anyhow::Result<()> {
     for pair in pairs.chunks(2) {
         let [high, low] = pair else {
-            return Err(anyhow!("half a byte"));
+            bail!("half a byte");
         };
         page.push(16 * digit(*high)? + digit(*low)?)?;
     }
@@ -64,9 +58,7 @@ fn add_piece(piece: &str, page: &mut Vec<u8>) -> anyhow::Result<()> {
     let Some(repeated) = piece.strip_prefix('*') else {
         return add_bytes(piece.as_bytes(), page);
     };
-    let Some((count, pairs)) = repeated.split_once(':') else {
-        return Err(anyhow!("a count without a piece"));
-    };
+    let (count, pairs) = repeated.split_once(':').context("a count without a piece")?;
     for _ in 0..count.parse::<usize>()? {
         add_bytes(pairs.as_bytes(), page)?;
     }

@@ -1,6 +1,6 @@
 -- The lines of the output, byte for byte, and how an output holds them. Assumes nothing.
-use Rattle.std.specs.Prelude.{ℕ, ◌+◌, cond, List, [], ◌∷◌, ◌++◌, map, length, take, drop, Ok, Err, codes, decimal, Result, nat_lt}
-use Rattle.refusals.specs.Refusals.{number_of, place_of, host_of, part_of, code_of}
+use Rattle.std.specs.Prelude.{ℕ, cond, List, [], ◌∷◌, ◌++◌, map, length, drop, Ok, Err, codes, decimal, flat_map, Result, nat_lt}
+use Rattle.refusals.specs.Refusals.{refusal_text}
 use Rattle.refusals.specs.declared.Refusal.{Refusal}
 use Rattle.refusals.specs.declared.Refusal.TheVariants.{OutputShort}
 
@@ -10,6 +10,10 @@ spaced [] = codes "\n"
 spaced (w ∷ []) = w ++ codes "\n"
 spaced (w ∷ v ∷ ws) = w ++ (codes " " ++ spaced (v ∷ ws))
 
+-- the numbers of a line behind its first word, each behind a space, and a line feed last
+abbrev pub rest_bytes : List ℕ → List ℕ
+rest_bytes ns = flat_map (λ n. codes " " ++ decimal n) ns ++ codes "\n"
+
 -- how many rules and nodes there are
 abbrev pub heading_bytes : ℕ → ℕ → List ℕ
 heading_bytes rules nodes = spaced (codes "rules" ∷ decimal rules ∷ codes "nodes" ∷ decimal nodes ∷ [])
@@ -18,12 +22,9 @@ heading_bytes rules nodes = spaced (codes "rules" ∷ decimal rules ∷ codes "n
 abbrev pub line_bytes : ℕ → ℕ → ℕ → ℕ → ℕ → List ℕ
 line_bytes number kind op from to = spaced (map decimal (number ∷ kind ∷ op ∷ from ∷ to ∷ []))
 
+-- what is printed of a refusal, and a line feed
 abbrev pub refusal_bytes : Refusal → List ℕ
-refusal_bytes r = spaced (codes "refused" ∷ map decimal (number_of r ∷ place_of r ∷ host_of r ∷ part_of r ∷ code_of r ∷ []))
-
--- bytes written over an output from a place on
-abbrev pub put_at : List ℕ → ℕ → List ℕ → List ℕ
-put_at out at bytes = take at out ++ (bytes ++ drop (at + length bytes) out)
+refusal_bytes r = refusal_text r ++ codes "\n"
 
 -- what a line written over the start of an output answers, its length, and what the output holds then;
 -- an output of fewer than 32 bytes is refused and stays as it was

@@ -1,79 +1,87 @@
 // Writes the lines of the output, byte for byte, at the start of a lent output.
 #![tactic(auto)]
 
-ghost use Rattle.std.specs.Prelude.{◌≡◌, ◌+◌, ◌<◌, ◌≤◌, [], ◌∷◌, ◌++◌, map, length, drop, decimal, nat_lt};
-ghost use Rattle.lines.specs.Lines.{spaced, heading_bytes, line_bytes, refusal_bytes, put_at, written};
+ghost use Rattle.std.specs.Prelude.{◌≡◌, ℕ, ◌+◌, ◌<◌, ◌≤◌, List, [], ◌++◌, length, take, drop, decimal};
+ghost use Rattle.lines.specs.Lines.{rest_bytes, heading_bytes, line_bytes, refusal_bytes, written};
 
+use itoa::Buffer;
 use refusals::Refusal;
+use std::marker::Model;
 
-// Writes a text at a place, and answers the place behind it.
-fn put_text(out: &mut [u8], at: usize, text: &[u8]) -> usize
-    requires { at + length text.now ≤ length out.old }
-    ensures value { result ≡ at + length text.now }
-    ensures after { out.new ≡ put_at out.old at text.now }
-{
-    let end = at + text.len();
-    out[at..end].copy_from_slice(text);
-    end
+// A line under way. No line has more bytes than it holds, so that nothing is allocated. It is no `fmt::Write`: the
+// contract of `write!` leaves open that it fails, and these lines may not.
+#[derive(Drop)]
+struct Line {
+    bytes: [u8; 64],
+    len: usize,
 }
 
-// Writes the digits of a number at a place, and answers the place behind them.
-fn put_digits(out: &mut [u8], at: usize, n: usize) -> usize
-    requires { at + length (decimal n) ≤ length out.old }
-    ensures value { result ≡ at + length (decimal n) }
-    ensures after { out.new ≡ put_at out.old at (decimal n) }
-{
-    let last = if n < 10 {
-        at
-    } else {
-        put_digits(out, at, n / 10)
-    };
-    out[last] = b'0' + (n % 10) as u8;
-    last + 1
+impl Model for Line {
+    ghost Value = { List ℕ };
+
+    ghost view = { λ l. take l.len l.bytes };
+
+    ghost invariant = { λ l. l.len ≤ 64 };
 }
 
-// Writes a number and one byte more at a place, and answers the place behind both.
-fn put_number(out: &mut [u8], at: usize, n: usize, more: u8) -> usize
-    requires { at + length (decimal n) < length out.old }
-    ensures value { result ≡ at + length (decimal n ++ more ∷ []) }
-    ensures after { out.new ≡ put_at out.old at (decimal n ++ more ∷ []) }
-{
-    let end = put_digits(out, at, n);
-    out[end] = more;
-    end + 1
-}
-
-// Writes numbers at a place, single spaces between and a line feed last, and answers the place behind them.
-fn put_numbers(out: &mut [u8], at: usize, numbers: &[usize]) -> usize
-    requires { at + length (spaced (map decimal numbers.now)) ≤ length out.old }
-    ensures value { result ≡ at + length (spaced (map decimal numbers.now)) }
-    ensures after { out.new ≡ put_at out.old at (spaced (map decimal numbers.now)) }
-{
-    match numbers {
-        [] => put_text(out, at, b"\n"),
-        [last] => put_number(out, at, *last, b'\n'),
-        [first, rest @ ..] => {
-            let behind = put_number(out, at, *first, b' ');
-            put_numbers(out, behind, rest)
+impl Line {
+    fn new() -> Line
+        ensures { result ≡ [] }
+    {
+        Line {
+            bytes: [0; 64],
+            len: 0,
         }
     }
-}
 
-// Writes a text and numbers behind it at the start, and answers the length of the line.
-fn put_line(out: &mut [u8], text: &[u8], numbers: &[usize]) -> usize
-    requires { length (text.now ++ spaced (map decimal numbers.now)) ≤ length out.old }
-    ensures value { result ≡ length (text.now ++ spaced (map decimal numbers.now)) }
-    ensures after { out.new ≡ (text.now ++ spaced (map decimal numbers.now)) ++ drop result out.old }
-{
-    let at = put_text(out, 0, text);
-    put_numbers(out, at, numbers)
-}
+    fn text(&mut self, text: &[u8])
+        requires { length self.old + length text.now ≤ 64 }
+        ensures { self.new ≡ self.old ++ text.now }
+    {
+        let end = self.len + text.len();
+        self.bytes[self.len..end].copy_from_slice(text);
+        self.len = end;
+    }
 
-// Whether an output is shorter than the 32 bytes that a heading or a node asks for, however long its line is.
-fn too_short(out: &[u8]) -> bool
-    ensures { result ≡ nat_lt (length out.now) 32 }
-{
-    out.len() < 32
+    fn number(&mut self, n: usize)
+        requires { length self.old + length (decimal n) ≤ 64 }
+        ensures { self.new ≡ self.old ++ decimal n }
+    {
+        self.text(Buffer::new().format(n).as_bytes());
+    }
+
+    // Adds numbers, each behind a space, and ends the line.
+    fn numbers(&mut self, numbers: &[usize])
+        requires { length self.old + length (rest_bytes numbers.now) ≤ 64 }
+        ensures { self.new ≡ self.old ++ rest_bytes numbers.now }
+    {
+        for number in numbers {
+            self.text(b" ");
+            self.number(*number);
+        }
+        self.text(b"\n");
+    }
+
+    // Writes the line over the start of an output, and answers its length.
+    fn put(&self, out: &mut [u8]) -> usize
+        requires { length self.now ≤ length out.old }
+        ensures value { result ≡ length self.now }
+        ensures after { out.new ≡ self.now ++ drop result out.old }
+    {
+        out[..self.len].copy_from_slice(&self.bytes[..self.len]);
+        self.len
+    }
+
+    // The same, where an output that may be too short for some line is refused, however long this one is.
+    fn write(&self, out: &mut [u8]) -> Result<usize, Refusal>
+        requires { length self.now ≤ 32 }
+        ensures { (result, out.new) ≡ written self.now out.old }
+    {
+        if out.len() < 32 {
+            return Err(Refusal::OutputShort);
+        }
+        Ok(self.put(out))
+    }
 }
 
 // Writes how many rules and nodes there are, and answers the length of the line.
@@ -82,16 +90,17 @@ pub fn heading_line(rules: usize, nodes: usize, out: &mut [u8]) -> Result<usize,
     requires nodes { nodes ≤ 4096 }
     ensures { (result, out.new) ≡ written (heading_bytes rules nodes) out.old }
 {
-    if too_short(out) {
-        return Err(Refusal::OutputShort);
-    }
-    let at = put_text(out, 0, b"rules ");
-    let at = put_number(out, at, rules, b' ');
-    let at = put_text(out, at, b"nodes ");
-    Ok(put_number(out, at, nodes, b'\n'))
+    let mut line = Line::new();
+    line.text(b"rules ");
+    line.number(rules);
+    line.text(b" nodes ");
+    line.number(nodes);
+    line.text(b"\n");
+    line.write(out)
 }
 
-// Writes a node with the token places from which and to which it reaches, and answers the length of the line.
+// Writes a node with the token places from which and to which it reaches, and answers the length of the line. The kind is
+// given by its number: a kind itself would take no 0, which this call takes.
 pub fn node_line(
     number: usize,
     kind: u8,
@@ -106,13 +115,14 @@ pub fn node_line(
     requires to { to ≤ 4096 }
     ensures { (result, out.new) ≡ written (line_bytes number kind op from to) out.old }
 {
-    if too_short(out) {
-        return Err(Refusal::OutputShort);
-    }
-    Ok(put_numbers(out, 0, &[number, kind as usize, op as usize, from, to]))
+    let mut line = Line::new();
+    line.number(number);
+    line.numbers(&[kind as usize, op as usize, from, to]);
+    line.write(out)
 }
 
-// Writes a refusal, and answers the length of the line.
+// Writes a refusal, and answers the length of the line. Each cast is to a wider number: the check proves that it loses
+// nothing.
 pub fn refusal_line(refusal: Refusal, out: &mut [u8; 64]) -> usize
     ensures value { result ≡ length (refusal_bytes refusal) }
     ensures after { out.new ≡ refusal_bytes refusal ++ drop result out.old }
@@ -122,5 +132,9 @@ pub fn refusal_line(refusal: Refusal, out: &mut [u8; 64]) -> usize
     let host = refusal.host() as usize;
     let part = refusal.part() as usize;
     let code = refusal.code() as usize;
-    put_line(out, b"refused ", &[number, place, host, part, code])
+    let mut line = Line::new();
+    line.text(b"refused ");
+    line.number(number);
+    line.numbers(&[place, host, part, code]);
+    line.put(out)
 }

@@ -1,4 +1,5 @@
-// A counted list over a lent space, for every record type. The count is lent too, by whoever keeps the totals.
+// A counted list over a lent space, for every record type. The count is lent too, by whoever keeps the totals. It is no
+// `Vec`, since reading allocates nothing.
 #![tactic(auto)]
 
 ghost use Rattle.std.specs.Prelude.{◌≡◌, ℕ, ◌+◌, ◌-◌, ◌<◌, ◌≤◌, min, List, [], ◌∷◌, ◌++◌, length, take, drop, if◌then◌else◌, Ok, Err, MatchOption, nat_lt, slice_index_or, slice_set};
@@ -50,19 +51,17 @@ impl<'a, 'c, T: Copy> Counted<'a, 'c, T> {
         Ok(at)
     }
 
-    // Takes the last record off.
+    // Takes the last record off. A list can be made over any count, so that what reads records asks that it is within the
+    // space; an invariant would ask it of `new`.
     pub fn pop(&mut self) -> Option<T>
         requires { used self.old ≤ room self.old }
         ensures cases { MatchOption result ((used self.old ≡ 0) × (used self.new ≡ 0)) (λ x. (items self.old ≡ items self.new ++ x ∷ []) × (used self.new + 1 ≡ used self.old)) }
         ensures space { self.new.space.now ≡ self.old.space.now }
         ensures lender { Lent self.old self.new }
     {
-        let n = *self.count;
-        if n == 0 {
-            return None;
-        }
-        *self.count = n - 1;
-        Some(self.space[n - 1])
+        let last = self.count.checked_sub(1)?;
+        *self.count = last;
+        Some(self.space[last])
     }
 
     pub fn get(&self, i: usize) -> T
@@ -94,14 +93,12 @@ impl<'a, 'c, T: Copy> Counted<'a, 'c, T> {
         ensures count { used self.new ≡ min n (used self.old) }
         ensures lender { Lent self.old self.new }
     {
-        if n < *self.count {
-            *self.count = n;
-        }
+        *self.count = n.min(*self.count);
     }
 }
 
-// Adds a record behind those in use of a space. The list is made over a plain slice, so that the caller learns what its space
-// holds after.
+// Adds a record behind those in use of a space. The list is made over a plain slice, so that the caller learns what its
+// space holds after.
 pub fn append<T: Copy>(space: &mut [T], count: &mut usize, x: T) -> Result<usize, T>
     ensures value { result ≡ (if nat_lt count.old (length space.old) then Ok count.old else Err x) }
     ensures pushed { count.old < length space.old → take count.new space.new ≡ take count.old space.old ++ x ∷ [] }

@@ -1,27 +1,27 @@
 -- An operator that stands at a place has one to three tokens, which all stand before the level's end. Assumes nothing.
-use Rattle.std.proofs.Common.{◌≡◌, ℕ, ◌+◌, ◌<◌, ◌≤◌, Bool, true, false, cond, not, ◌&&◌, eqb, List, [], ◌∷◌, length, refl, arith}
+use Rattle.std.proofs.Common.{◌≡◌, ℕ, ◌+◌, ◌<◌, ◌≤◌, Bool, true, false, cond, not, ◌&&◌, eqb, List, [], ◌∷◌, length, Some, None, Option, refl, arith}
 use Rattle.std.proofs.lemmas.Bool.{and_parts, both_ways, cond_both, eqb-true}
 use Rattle.std.proofs.lemmas.Bool.Decides.{nat_tests}
 use Rattle.tokens.specs.declared.Token.{Token}
 use Rattle.operators.specs.declared.Infix.TheVariants.{Cast}
 use Rattle.operators.specs.declared.Sign.{Sign}
-use Rattle.operators.specs.declared.Sign.TheVariants.{Nothing, Operator, ThreeDots, LeftArrow}
+use Rattle.operators.specs.declared.Sign.TheVariants.{Operator, ThreeDots, LeftArrow}
 use Rattle.operators.specs.Spellings.{spelled_at, as_at}
 use Rattle.operators.specs.Signs.{spellings, first_of, sign_at, GoodSign}
 
 -- what the table keeps, as a test: no character is 0, which is what `mark_at` shows of anything but a mark, and an operator
 -- has as many tokens as its spelling has characters
-abbrev characters : List ℕ → Bool
+abbrev pub characters : List ℕ → Bool
 characters [] = true
 characters (c ∷ cs) = not (eqb c 0) && characters cs
 
-abbrev sized : ℕ → Sign → Bool
-sized n Nothing = true
-sized n (Operator op k) = eqb k n
-sized n ThreeDots = true
-sized n LeftArrow = true
+abbrev pub sized : ℕ → Option Sign → Bool
+sized n None = true
+sized n (Some (Operator op k)) = eqb k n
+sized n (Some ThreeDots) = true
+sized n (Some LeftArrow) = true
 
-abbrev sound : List (List ℕ × (ℕ → Sign)) → Bool
+abbrev pub sound : List (List ℕ × (ℕ → Option Sign)) → Bool
 sound [] = true
 sound ((cs, means) ∷ rows) = (characters cs && sized (length cs) (means (length cs))) && sound rows
 
@@ -47,15 +47,15 @@ spelled_room ts e i (a ∷ b ∷ c ∷ []) n h =
     (omega arith, omega arith, omega arith)
 spelled_room ts e i (a ∷ b ∷ c ∷ d ∷ more) n h = absurd (both_ways false refl h)
 
-sized_good : (i e n : ℕ) (s : Sign) → sized n s ≡ true → Room i e n → GoodSign i e s
-sized_good i e n Nothing t f = tt
-sized_good i e n (Operator op k) t f =
+sized_good : (i e n : ℕ) (s : Option Sign) → sized n s ≡ true → Room i e n → GoodSign i e s
+sized_good i e n None t f = tt
+sized_good i e n (Some (Operator op k)) t f =
     let same : k ≡ n = eqb-true k n t in
     (omega arith, omega arith, omega arith)
-sized_good i e n ThreeDots t f = tt
-sized_good i e n LeftArrow t f = tt
+sized_good i e n (Some ThreeDots) t f = tt
+sized_good i e n (Some LeftArrow) t f = tt
 
-first_good : (ts : List Token) (e i : ℕ) (rows : List (List ℕ × (ℕ → Sign))) (other : Sign) → sound rows ≡ true → GoodSign i e other → GoodSign i e (first_of (spelled_at ts e i) rows other)
+first_good : (ts : List Token) (e i : ℕ) (rows : List (List ℕ × (ℕ → Option Sign))) (other : Option Sign) → sound rows ≡ true → GoodSign i e other → GoodSign i e (first_of (spelled_at ts e i) rows other)
 first_good ts e i [] other t g = g
 first_good ts e i ((cs, means) ∷ rows) other t g =
     let both = and_parts (characters cs && sized (length cs) (means (length cs))) (sound rows) t in
@@ -68,5 +68,5 @@ first_good ts e i ((cs, means) ∷ rows) other t g =
 pub good_sign : (ts : List Token) (e i : ℕ) → GoodSign i e (sign_at ts e i)
 unfolding sign_at
 good_sign ts e i =
-    first_good ts e i spellings (cond (as_at ts e i) (Operator Cast 1) Nothing) refl
-    (cond_both (as_at ts e i) (Operator Cast 1) Nothing (GoodSign i e) (λ h. as_room ts e i h) (λ _. tt))
+    first_good ts e i spellings (cond (as_at ts e i) (Some (Operator Cast 1)) None) refl
+    (cond_both (as_at ts e i) (Some (Operator Cast 1)) None (GoodSign i e) (λ h. as_room ts e i h) (λ _. tt))

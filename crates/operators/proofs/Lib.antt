@@ -1,3 +1,4 @@
 pub mod Table
 pub mod GoodSigns
+pub mod Marked
 pub mod Examples

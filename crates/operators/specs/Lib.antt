@@ -1,3 +1,4 @@
+pub mod Codes
 pub mod Ranks
 pub mod Spellings
 pub mod Signs

@@ -1,5 +1,6 @@
 -- How strongly infix operators bind, and which operands their ranks allow. Assumes nothing.
 use Rattle.std.specs.Prelude.{ℕ, suc, ◌+◌, Bool, true, cond, ◌&&◌, ◌||◌, List, [], ◌∷◌, ◌==◌, nat_le, nat_lt}
+use Rattle.operators.specs.Codes.{code_of}
 use Rattle.operators.specs.declared.Infix.{Infix}
 use Rattle.operators.specs.declared.Infix.TheVariants.{Binary, Assign, Range, Cast}
 
@@ -37,7 +38,7 @@ ranked k [] = true
 ranked k (r ∷ rs) = r == rank_of_code k && ranked (suc k) rs
 
 abbrev pub rank_of : Infix → ℕ
-rank_of (Binary k) = rank_of_code k
+rank_of (Binary op) = rank_of_code (code_of op)
 rank_of Assign = 1
 rank_of (Range closed) = 2
 rank_of Cast = 12

@@ -1,32 +1,75 @@
 // The infix operators of a rule: how they are spelled in single characters, and how strongly they bind.
 #![tactic(auto)]
 
-ghost use Rattle.std.specs.Prelude.{◌≡◌, ◌<◌, ◌≤◌, true, not, ◌&&◌, ◌||◌, if◌then◌else◌, nat_eq, nat_lt};
-ghost use Rattle.tokens.specs.Looks.{mark_at};
-ghost use Rattle.operators.specs.Ranges.{brace_at, ends_range, range_ends};
-ghost use Rattle.operators.specs.Ranks.{rank_of, ranked, above_rank, left_keeps};
-ghost use Rattle.operators.specs.Signs.{first_sign, sign_at, GoodSign};
-ghost use Rattle.operators.specs.Spellings.{next_at, as_at, Arithmetic};
+ghost use Rattle.std.specs.Prelude.{◌≡◌, ◌+◌, ◌<◌, ◌≤◌, true, if◌then◌else◌};
+ghost use Rattle.tokens.specs.Looks.{mark_in};
+ghost use Rattle.operators.specs.Codes.{code_of};
+ghost use Rattle.operators.specs.Ranges.{ends_range, range_ends};
+ghost use Rattle.operators.specs.Ranks.{rank_of, rank_of_code, ranked, above_rank, left_keeps};
+ghost use Rattle.operators.specs.Signs.{spellings, first_of, sign_at, GoodSign};
+ghost use Rattle.operators.specs.Spellings.{next_in, shows, spelled_by};
 ghost use Rattle.operators.specs.declared.Infix.TheVariants.{Binary};
 ghost use Rattle.operators.specs.declared.Sign.TheVariants.{Operator};
 
 use tokens::window::Window;
 use tokens::{Delimiter, Look, Word};
 
-// An infix operator: a binary one by its code, `=`, the limits of a range (closed: `..=`), or `as`. The codes are, from 1:
+// A binary operator, with its code. The codes are, from 1:
 // + - * / % && || ^ & | << >> == < <= != >= > += -= *= /= %= ^= &= |= <<= >>=
-#[derive(Clone, Copy)]
+#[derive(Clone, Copy, PartialEq, Eq)]
+pub enum BinaryOp {
+    Add = 1,
+    Sub,
+    Mul,
+    Div,
+    Rem,
+    And,
+    Or,
+    BitXor,
+    BitAnd,
+    BitOr,
+    Shl,
+    Shr,
+    Eq,
+    Lt,
+    Le,
+    Ne,
+    Ge,
+    Gt,
+    AddAssign,
+    SubAssign,
+    MulAssign,
+    DivAssign,
+    RemAssign,
+    BitXorAssign,
+    BitAndAssign,
+    BitOrAssign,
+    ShlAssign,
+    ShrAssign,
+}
+
+impl BinaryOp {
+    // The number by which the operator is known in a node.
+    pub fn code(self) -> u8
+        ensures value { result ≡ code_of self }
+        ensures within { (1 ≤ result) × (result ≤ 28) }
+    {
+        self as u8
+    }
+}
+
+// An infix operator: a binary one, `=`, the limits of a range (closed: `..=`), or `as`.
+#[derive(Clone, Copy, PartialEq, Eq)]
 pub enum Infix {
-    Binary(u8),
+    Binary(BinaryOp),
     Assign,
     Range(bool),
     Cast,
 }
 
 // What stands at a place where an operator may stand.
-#[derive(Clone, Copy)]
+#[derive(Clone, Copy, PartialEq, Eq)]
 pub enum Sign {
-    Nothing,
     // An operator and how many tokens spell it.
     Operator(Infix, usize),
     // `...`
@@ -74,19 +117,25 @@ fn ranks() -> [u8; 28]
     RANKS
 }
 
-// How strongly an operator binds, from 1 to 12, and 0 for a code that no operator has.
+// The rank of the binary operator with a code, and 0 for a code that none has.
+#[tactic(auto, using(crate::proofs::Table::ranked_at, crate::proofs::Table::rank_within))]
+pub fn rank_of_code(code: u32) -> u8
+    ensures value { result ≡ rank_of_code code }
+    ensures within { result ≤ 12 }
+{
+    match code {
+        1..=28 => ranks()[code as usize - 1],
+        _ => 0,
+    }
+}
+
+// How strongly an operator binds, from 1 to 12.
 pub fn rank(op: Infix) -> u8
     ensures value { result ≡ rank_of op }
     ensures within { result ≤ 12 }
 {
     match op {
-        Infix::Binary(code) => {
-            if code == 0 || code > 28 {
-                0
-            } else {
-                ranks()[code as usize - 1]
-            }
-        }
+        Infix::Binary(op) => rank_of_code(op.code() as u32),
         Infix::Assign => 1,
         Infix::Range(_) => 2,
         Infix::Cast => 12,
@@ -101,7 +150,8 @@ pub fn above(rank: u8) -> u8
     if rank == 1 { 1 } else { rank + 1 }
 }
 
-// Whether a left operand of a rank (0: no infix operator) may stand under an operator of the rank `parent`.
+// Whether a left operand of a rank (0: no infix operator) may stand under an operator of the rank `parent`. Ranks are plain
+// numbers, as the binding rule's table has them, and 0 lies below every one of them.
 pub fn left_keeps(left: u8, parent: u8) -> bool
     ensures { result ≡ left_keeps left parent }
 {
@@ -111,241 +161,120 @@ pub fn left_keeps(left: u8, parent: u8) -> bool
     }
 }
 
-// What stands at a place.
-pub fn sign_at(level: Window, i: usize) -> Sign
+// What stands at a place. The place is named beside the level, here and below, since `next` and `range_ends` are asked for
+// places further on than the level's own.
+#[tactic(auto, unfolding(crate::specs::Signs::sign_at))]
+pub fn sign_at(level: Window, i: usize) -> Option<Sign>
     ensures value { result ≡ sign_at level.entry.tokens.now level.entry.end i }
     ensures good { GoodSign i level.entry.end result }
 {
-    first_sign(level, i)
-}
-
-// What stands at a place, by the mark there.
-fn first_sign(level: Window, i: usize) -> Sign
-    ensures { result ≡ first_sign level.entry.tokens.now level.entry.end i }
-{
-    match level.mark(i) {
-        '+' | '*' | '/' | '%' | '^' => arithmetic_sign(level, i),
-        '-' => minus_sign(level, i),
-        '&' => and_sign(level, i),
-        '|' => or_sign(level, i),
-        '<' => less_sign(level, i),
-        '>' => greater_sign(level, i),
-        '=' => equals_sign(level, i),
-        '!' => not_sign(level, i),
-        '.' => dot_sign(level, i),
-        _ => {
-            if is_as(level, i) {
-                Sign::Operator(Infix::Cast, 1)
-            } else {
-                Sign::Nothing
-            }
-        }
+    match level.look(i) {
+        Some(Look::Mark(first, _)) => marks_sign(first, next(level, i), next(level, i + 1)),
+        Some(Look::Name(Word::As)) => Some(Sign::Operator(Infix::Cast, 1)),
+        _ => None,
     }
 }
 
-// What begins with `+`, `*`, `/`, `%` or `^`.
-fn arithmetic_sign(level: Window, i: usize) -> Sign
-    requires { Arithmetic (mark_at level.tokens.now level.end i) }
-    ensures { result ≡ first_sign level.entry.tokens.now level.entry.end i }
-{
-    let next = next(level, i);
-    match level.mark(i) {
-        '+' => plain_or_compound(next, 1, 19),
-        '*' => plain_or_compound(next, 3, 21),
-        '/' => plain_or_compound(next, 4, 22),
-        '%' => plain_or_compound(next, 5, 23),
-        // `^`, the last of the five
-        _ => plain_or_compound(next, 8, 24),
-    }
-}
-
-// A binary operator of one character, or its compound assignment where `=` is joined to it.
-fn plain_or_compound(next: char, plain: u8, compound: u8) -> Sign
-    ensures { result ≡ (if nat_eq next 61 then Operator (Binary compound) 2 else Operator (Binary plain) 1) }
-{
-    if next == '=' {
-        binary(compound, 2)
-    } else {
-        binary(plain, 1)
-    }
-}
-
-// What begins with `-`.
-fn minus_sign(level: Window, i: usize) -> Sign
-    requires { mark_at level.tokens.now level.end i ≡ 45 }
-    ensures { result ≡ first_sign level.entry.tokens.now level.entry.end i }
-{
-    match next(level, i) {
-        '=' => binary(20, 2),
-        '>' => Sign::Nothing,
-        _ => binary(2, 1),
-    }
-}
-
-// What begins with `&`.
-fn and_sign(level: Window, i: usize) -> Sign
-    requires { mark_at level.tokens.now level.end i ≡ 38 }
-    ensures { result ≡ first_sign level.entry.tokens.now level.entry.end i }
-{
-    match next(level, i) {
-        '&' => binary(6, 2),
-        '=' => binary(25, 2),
-        _ => binary(9, 1),
-    }
-}
-
-// What begins with `|`.
-fn or_sign(level: Window, i: usize) -> Sign
-    requires { mark_at level.tokens.now level.end i ≡ 124 }
-    ensures { result ≡ first_sign level.entry.tokens.now level.entry.end i }
-{
-    match next(level, i) {
-        '|' => binary(7, 2),
-        '=' => binary(26, 2),
-        _ => binary(10, 1),
-    }
-}
-
-// What begins with `<`.
-fn less_sign(level: Window, i: usize) -> Sign
-    requires { mark_at level.tokens.now level.end i ≡ 60 }
-    ensures { result ≡ first_sign level.entry.tokens.now level.entry.end i }
-{
-    match next(level, i) {
-        '<' => {
-            if level.three(i, '<', '<', '=') {
-                binary(27, 3)
-            } else {
-                binary(11, 2)
-            }
-        }
-        '=' => binary(15, 2),
-        '-' => Sign::LeftArrow,
-        _ => binary(14, 1),
-    }
-}
-
-// What begins with `>`.
-fn greater_sign(level: Window, i: usize) -> Sign
-    requires { mark_at level.tokens.now level.end i ≡ 62 }
-    ensures { result ≡ first_sign level.entry.tokens.now level.entry.end i }
-{
-    match next(level, i) {
-        '>' => {
-            if level.three(i, '>', '>', '=') {
-                binary(28, 3)
-            } else {
-                binary(12, 2)
-            }
-        }
-        '=' => binary(17, 2),
-        _ => binary(18, 1),
-    }
-}
-
-// What begins with `=`.
-fn equals_sign(level: Window, i: usize) -> Sign
-    requires { mark_at level.tokens.now level.end i ≡ 61 }
-    ensures { result ≡ first_sign level.entry.tokens.now level.entry.end i }
-{
-    match next(level, i) {
-        '=' => binary(13, 2),
-        '>' => Sign::Nothing,
-        _ => Sign::Operator(Infix::Assign, 1),
-    }
-}
-
-// What begins with `!`.
-fn not_sign(level: Window, i: usize) -> Sign
-    requires { mark_at level.tokens.now level.end i ≡ 33 }
-    ensures { result ≡ first_sign level.entry.tokens.now level.entry.end i }
-{
-    match next(level, i) {
-        '=' => binary(16, 2),
-        _ => Sign::Nothing,
-    }
-}
-
-// What begins with `.`.
-fn dot_sign(level: Window, i: usize) -> Sign
-    requires { mark_at level.tokens.now level.end i ≡ 46 }
-    ensures { result ≡ first_sign level.entry.tokens.now level.entry.end i }
-{
-    match next(level, i) {
-        '.' => {
-            if level.three(i, '.', '.', '=') {
-                Sign::Operator(Infix::Range(true), 3)
-            } else if level.three(i, '.', '.', '.') {
-                Sign::ThreeDots
-            } else {
-                Sign::Operator(Infix::Range(false), 2)
-            }
-        }
-        _ => Sign::Nothing,
-    }
-}
-
-// The mark to which the one at a place is joined, and 0 where it is joined to none.
-fn next(level: Window, i: usize) -> char
-    ensures { result ≡ next_at level.entry.tokens.now level.entry.end i }
+// The mark to which the one at a place is joined.
+fn next(level: Window, i: usize) -> Option<char>
+    ensures { result ≡ next_in level.entry.tokens.now level.entry.end i }
 {
     if level.joined(i) {
         level.mark(i + 1)
     } else {
-        '\0'
+        None
     }
 }
 
-// Whether the name `as` stands at a place.
-fn is_as(level: Window, i: usize) -> bool
-    ensures { result ≡ as_at level.entry.tokens.now level.entry.end i }
+// What a mark begins, given the one that it is joined to, and the one that that is joined to.
+fn marks_sign(first: char, second: Option<char>, third: Option<char>) -> Option<Sign>
+    ensures { result ≡ first_of (spelled_by first second third) spellings None }
 {
-    match level.look(i) {
-        Some(Look::Name(Word::As)) => true,
-        _ => false,
+    match (first, second) {
+        // The arrows `->` and `=>` are no operators.
+        ('-' | '=', Some('>')) => None,
+        ('<', Some('-')) => Some(Sign::LeftArrow),
+        ('&', Some('&')) => binary(BinaryOp::And, 2),
+        ('|', Some('|')) => binary(BinaryOp::Or, 2),
+        ('<', Some('<')) => equals_or(third, 2, BinaryOp::ShlAssign, BinaryOp::Shl),
+        ('>', Some('>')) => equals_or(third, 2, BinaryOp::ShrAssign, BinaryOp::Shr),
+        ('=', Some('=')) => binary(BinaryOp::Eq, 2),
+        ('!', Some('=')) => binary(BinaryOp::Ne, 2),
+        ('.', Some('.')) => dots_sign(third),
+        ('+', _) => equals_or(second, 1, BinaryOp::AddAssign, BinaryOp::Add),
+        ('-', _) => equals_or(second, 1, BinaryOp::SubAssign, BinaryOp::Sub),
+        ('*', _) => equals_or(second, 1, BinaryOp::MulAssign, BinaryOp::Mul),
+        ('/', _) => equals_or(second, 1, BinaryOp::DivAssign, BinaryOp::Div),
+        ('%', _) => equals_or(second, 1, BinaryOp::RemAssign, BinaryOp::Rem),
+        ('^', _) => equals_or(second, 1, BinaryOp::BitXorAssign, BinaryOp::BitXor),
+        ('&', _) => equals_or(second, 1, BinaryOp::BitAndAssign, BinaryOp::BitAnd),
+        ('|', _) => equals_or(second, 1, BinaryOp::BitOrAssign, BinaryOp::BitOr),
+        ('<', _) => equals_or(second, 1, BinaryOp::Le, BinaryOp::Lt),
+        ('>', _) => equals_or(second, 1, BinaryOp::Ge, BinaryOp::Gt),
+        ('=', _) => Some(Sign::Operator(Infix::Assign, 1)),
+        _ => None,
     }
 }
 
-// A binary operator by its code, spelled in so many tokens.
-fn binary(code: u8, tokens: usize) -> Sign
-    ensures { result ≡ Operator (Binary code) tokens }
+// What begins with two dots, given the mark to which the second is joined.
+fn dots_sign(third: Option<char>) -> Option<Sign>
+    ensures { result ≡ first_of (spelled_by 46 (Some 46) third) spellings None }
 {
-    Sign::Operator(Infix::Binary(code), tokens)
+    Some(match third {
+        Some('=') => Sign::Operator(Infix::Range(true), 3),
+        Some('.') => Sign::ThreeDots,
+        _ => Sign::Operator(Infix::Range(false), 2),
+    })
+}
+
+// A binary operator that so many marks spell, or the one that they spell with `=`, where the next mark is that.
+fn equals_or(
+    next: Option<char>,
+    marks: usize,
+    with_equals: BinaryOp,
+    without: BinaryOp,
+) -> Option<Sign>
+    requires { marks < 3 }
+    ensures { result ≡ Some (if shows next 61 then Operator (Binary with_equals) (marks + 1) else Operator (Binary without) marks) }
+{
+    if next == Some('=') {
+        binary(with_equals, marks + 1)
+    } else {
+        binary(without, marks)
+    }
+}
+
+// A binary operator, spelled in so many tokens.
+fn binary(op: BinaryOp, tokens: usize) -> Option<Sign>
+    ensures { result ≡ Some (Operator (Binary op) tokens) }
+{
+    Some(Sign::Operator(Infix::Binary(op), tokens))
 }
 
 // Whether a half-open range `..` has no end because of what stands at a place. Where `structs` is false, a `{` group is no
 // part of the range.
+#[tactic(auto, unfolding(crate::specs::Ranges::range_ends))]
 pub fn range_ends(level: Window, i: usize, structs: bool) -> bool
     ensures { result ≡ range_ends level.entry.tokens.now level.entry.end i structs }
 {
-    ends_range(level, i, structs)
-}
-
-// The same, by the mark at the place.
-fn ends_range(level: Window, i: usize, structs: bool) -> bool
-    ensures { result ≡ ends_range level.entry.tokens.now level.entry.end i structs }
-{
-    match level.mark(i) {
-        ',' | ';' | '?' | '=' | '+' | '/' | '%' | '^' | '>' => true,
-        '.' => !level.two(i, '.', '.'),
-        '<' => level.two(i, '<', '=') || level.three(i, '<', '<', '='),
-        '!' => level.two(i, '!', '='),
-        '-' => level.two(i, '-', '='),
-        '*' => level.two(i, '*', '='),
-        '&' => level.two(i, '&', '='),
-        '|' => level.two(i, '|', '='),
-        _ => unmarked_ends(level, i, structs),
+    match level.look(i) {
+        None | Some(Look::Name(Word::As)) => true,
+        Some(Look::Open(Delimiter::Brace, _)) => !structs,
+        Some(Look::Mark(first, _)) => mark_ends(level, i, first),
+        _ => false,
     }
 }
 
-// Whether a range ends at the level's end, at `as`, or at a `{` group that is no part of it.
-fn unmarked_ends(level: Window, i: usize, structs: bool) -> bool
-    ensures { result ≡ (not (nat_lt i level.entry.end) || as_at level.entry.tokens.now level.entry.end i || (not structs && brace_at level.entry.tokens.now level.entry.end i)) }
+// Whether it has none because of the mark there.
+fn mark_ends(level: Window, i: usize, first: char) -> bool
+    requires { mark_in level.tokens.now level.end i ≡ Some first }
+    ensures { result ≡ ends_range level.entry.tokens.now level.entry.end i true }
 {
-    match level.look(i) {
-        None => true,
-        Some(Look::Name(Word::As)) => true,
-        Some(Look::Open(Delimiter::Brace, _)) => !structs,
+    match first {
+        ',' | ';' | '?' | '=' | '+' | '/' | '%' | '^' | '>' => true,
+        '.' => !level.two(i, '.', '.'),
+        '<' => level.two(i, '<', '=') || level.three(i, '<', '<', '='),
+        '!' | '-' | '*' | '&' | '|' => level.two(i, first, '='),
         _ => false,
     }
 }

@@ -1,10 +1,9 @@
 -- Every tree that is read has its tokens owned: by induction over the tasks of reading, a clause of the grammar at a time. Assumes nothing.
-use Rattle.std.proofs.Common.{◌≡◌, ℕ, ◌+◌, ◌<◌, ◌≤◌, Bool, true, eqb, List, Ok, Err, Result, refl, subst, arith}
-use borrow.Author.Tests.{eqb-false}
-use Rattle.std.proofs.lemmas.Bool.{cond_both}
+use Rattle.std.proofs.Common.{◌≡◌, ℕ, ◌+◌, ◌<◌, ◌≤◌, Bool, true, List, Ok, Err, Result, refl, arith}
 use Rattle.refusals.specs.declared.Part.{Part}
 use Rattle.refusals.specs.declared.Part.TheVariants as part
 use Rattle.refusals.specs.declared.Denial.{Denial}
+use Rattle.refusals.specs.declared.Refusal.{Refusal}
 use Rattle.refusals.specs.declared.Refusal.TheVariants as refusal
 use Rattle.tokens.specs.declared.Token.{Token}
 use Rattle.tokens.specs.Looks.{Field, level_of}
@@ -16,11 +15,11 @@ use Rattle.trees.specs.declared.Label.{Label}
 use Rattle.trees.specs.Layout.{Tree, Trees, branch, none, ◌then◌, label_of}
 use Rattle.grammar.specs.Heads.{head_at}
 use Rattle.grammar.specs.Tails.{tail_at}
-use Rattle.grammar.specs.Grammar.{label, kind_of, op_of, tree_rank, Outcome, took, refused, and_then, Task, expr, climb, items, left, comma_at, cast_followed, part_by, part_at, go_on, after_item, from_head, from_tail, from_items, grammar, read_task}
+use Rattle.grammar.specs.Grammar.{label, tree_rank, Outcome, took, refused, and_then, Task, expr, climb, items, left, part_by, part_at, go_on, after_item, from_head, from_tail, from_items, grammar, read_task}
 use Rattle.grammar.specs.declared.Head.{Head}
-use Rattle.grammar.specs.declared.Head.TheVariants.{Leaf, Prefix, Group, NoHead}
+use Rattle.grammar.specs.declared.Head.TheVariants.{Leaf, Prefix, Group}
 use Rattle.grammar.specs.declared.Tail.{Tail}
-use Rattle.grammar.specs.declared.Tail.TheVariants.{Takes, Endless, Casts, Stop, NoTail}
+use Rattle.grammar.specs.declared.Tail.TheVariants.{Takes, Endless, Casts, Stop}
 use Rattle.grammar.proofs.Levels.{taken}
 use Rattle.grammar.proofs.Steps.{GoodHead, GoodTail, good_head, good_tail}
 use Rattle.ownership.specs.Ownership.{Spanned, Row, ReadsOwn, FewNodes}
@@ -40,20 +39,12 @@ Owns (items f b from us p c e) o = Row (from + 1) p us → p ≤ c → c < e →
 
 -- a child that was read joins those before it
 joins : (f p e : ℕ) (us : Trees) (t : Tree) (q : ℕ) → Row f p us → Owned p e (took t q) → Row f q (us then t)
-joins f p e us t q row got = (later f p (label_of t).from us (omega (arith, got.1)) row, got.0, omega (arith, got.2))
-
--- what goes on from a tree that was read
-after : (p e from end : ℕ) (o : Outcome) (next : Tree → ℕ → Outcome)
-    → Owned p e o → ((t : Tree) (q : ℕ) → Owned p e (took t q) → Owned from end (next t q)) → Owned from end (and_then o next)
-after p e from end (took t q) next got more = more t q got
-after p e from end (refused r) next got more = tt
+joins f p e us t q row got = grind (arith, later)
 
 module _ (reading : Part → List Field → Result ℕ Denial) (law : (w : Part) (l : List Field) → Lawful l (reading w l)) (page : List ℕ) (ts : List Token) where
   -- a part that the host reads is a node of its own
   part_by_lem : (k : Kind) (w : Part) (p e : ℕ) (r : Result ℕ Denial) → r ≡ reading w (level_of page ts p e) → Owned p e (part_by reading page ts k w p r)
-  part_by_lem k w p e (Ok n) is =
-      let t = taken page ts p e n _ is (law w (level_of page ts p e)) in
-      (owns_first k 0 p (p + n) none (omega (arith, t.0)), refl, refl, t.1)
+  part_by_lem k w p e (Ok n) is = grind (arith, taken page ts p e n, law w (level_of page ts p e), owns_first)
   part_by_lem k w p e (Err d) is = tt
 
   part_owned : (k : Kind) (w : Part) (p e : ℕ) → Owned p e (part_at reading page ts k w p e)
@@ -67,55 +58,34 @@ module _ (reading : Part → List Field → Result ℕ Denial) (law : (w : Part)
     closes : (k : Kind) (f : Bool) (b from : ℕ) (us : Trees) (p c e : ℕ) → Row (from + 1) p us → p ≤ c → c < e
         → Owned from e (go_on reading page ts read f b (label k 0 from (c + 1)) us e)
     closes k f b from us p c e row h m =
-        goes_on f b (label k 0 from (c + 1)) us e (owns_first k 0 from (c + 1) us (later (from + 1) p (c + 1) us (omega arith) row)) (omega arith)
+        grind (arith, goes_on f b (label k 0 from (c + 1)) us e, owns_first k 0 from (c + 1) us, later (from + 1) p (c + 1) us)
 
     after_item_lem : (k : Kind) (f : Bool) (b from : ℕ) (us : Trees) (q c e : ℕ) → Row (from + 1) q us → q ≤ c → c < e
         → Owned from e (after_item reading page ts read k f b from us q c e)
-    after_item_lem k f b from us q c e row h m =
-        cond_both (eqb q c) _ _ (Owned from e)
-        (λ _. closes k f b from us q c e row h m)
-        (λ n. cond_both (comma_at ts q c) _ _ (Owned from e)
-        (λ _. let apart = eqb-false q c n in owns (items f b from us (q + 1) c e) (later (from + 1) q (q + 1) us (omega arith) row) (omega arith) m)
-        (λ _. tt))
+    after_item_lem k f b from us q c e row h m = grind (arith, closes, owns (items f b from us (q + 1) c e), later (from + 1) q (q + 1) us)
 
     -- an item, read from p on, behind those that were read
     with_item : (k : Kind) (f : Bool) (b from : ℕ) (us : Trees) (p c e : ℕ) → Row (from + 1) p us → c < e
         → Owned from e (and_then (read (expr true 0 p c)) (λ t q. after_item reading page ts read k f b from (us then t) q c e))
-    with_item k f b from us p c e row m =
-        after p c from e (read (expr true 0 p c)) _ (owns (expr true 0 p c))
-        (λ t q got. after_item_lem k f b from (us then t) q c e (joins (from + 1) p c us t q row got) got.3 m)
+    with_item k f b from us p c e row m = grind (arith, owns (expr true 0 p c), after_item_lem, joins)
 
-    from_head_lem : (f : Bool) (b p e : ℕ) (h : Head) → GoodHead p e h → Owned p e (from_head reading page ts read f b p e h)
-    from_head_lem f b p e (Leaf k q) good = goes_on f b (label k 0 p q) none e (owns_first k 0 p q none (omega (arith, good.0))) good.1
-    from_head_lem f b p e (Prefix k o q r) good =
-        after q e p e (read (expr f r q e)) _ (owns (expr f r q e))
-        (λ t s got. goes_on f b (label k o p s) (none then t) e (owns_first k o p s (none then t) (joins (p + 1) q e none t s (omega (arith, good.0)) got)) got.3)
-    from_head_lem f b p e (Group i c) good = with_item kind.Paren f b p none i c e (omega (arith, good.0)) good.2
-    from_head_lem f b p e (NoHead r) good = tt
+    from_head_lem : (f : Bool) (b p e : ℕ) (h : Result Head Refusal) → GoodHead p e h → Owned p e (from_head reading page ts read f b p e h)
+    from_head_lem f b p e (Ok (Leaf k q)) good = grind (arith, goes_on f b (label k 0 p q) none e, owns_first k 0 p q none)
+    from_head_lem f b p e (Ok (Prefix k o q r)) good = grind (arith, owns (expr f r q e), goes_on, owns_first, joins)
+    from_head_lem f b p e (Ok (Group i c)) good = grind (arith, with_item)
+    from_head_lem f b p e (Err r) good = tt
 
-    from_tail_lem : (f : Bool) (b : ℕ) (t : Tree) (p e : ℕ) (h : Tail) → GoodTail p e h → Spanned t → (label_of t).to ≡ p → p ≤ e
+    from_tail_lem : (f : Bool) (b : ℕ) (t : Tree) (p e : ℕ) (h : Result Tail Refusal) → GoodTail p e h → Spanned t → (label_of t).to ≡ p → p ≤ e
         → Owned (label_of t).from e (from_tail reading page ts read f b t p e h)
-    from_tail_lem f b t p e (Takes o q) good s is m =
-        after q e (label_of t).from e (read (expr f (above_rank (rank_of o)) q e)) _ (owns (expr f (above_rank (rank_of o)) q e))
-        (λ u r got.
-        goes_on f b (label (kind_of o) (op_of o) (label_of t).from r) (none then t then u) e
-        (owns_between (kind_of o) (op_of o) r t u s got.0 (omega (arith, good.0, got.1)) (omega (arith, got.2))) got.3)
-    from_tail_lem f b t p e (Endless q) good s is m =
-        goes_on f b (label kind.Range 0 (label_of t).from q) (none then t) e (owns_last kind.Range 0 q t s (omega (arith, good.0))) good.1
-    from_tail_lem f b t p e (Casts i) good s is m =
-        after i e (label_of t).from e (part_at reading page ts kind.TypeName part.TypeName i e) _ (part_owned kind.TypeName part.TypeName i e)
-        (λ u q got. cond_both (cast_followed ts q e) _ _ (Owned (label_of t).from e) (λ _. tt)
-        (λ _. goes_on f b (label kind.Cast 0 (label_of t).from q) (none then t then u) e
-        (owns_between kind.Cast 0 q t u s got.0 (omega (arith, good.0, got.1)) (omega (arith, got.2))) got.3))
-    from_tail_lem f b t p e Stop good s is m = (s, refl, is, m)
-    from_tail_lem f b t p e (NoTail r) good s is m = tt
+    from_tail_lem f b t p e (Ok (Takes o q)) good s is m = grind (arith, owns (expr f (above_rank (rank_of o)) q e), goes_on, owns_between)
+    from_tail_lem f b t p e (Ok (Endless q)) good s is m = grind (arith, goes_on, owns_last)
+    from_tail_lem f b t p e (Ok (Casts i)) good s is m = grind (arith, part_owned kind.TypeName part.TypeName i e, goes_on, owns_between)
+    from_tail_lem f b t p e (Ok Stop) good s is m = (s, refl, is, m)
+    from_tail_lem f b t p e (Err r) good s is m = tt
 
     from_items_lem : (f : Bool) (b from : ℕ) (us : Trees) (p c e : ℕ) → Row (from + 1) p us → p ≤ c → c < e
         → Owned from e (from_items reading page ts read f b from us p c e)
-    from_items_lem f b from us p c e row h m =
-        cond_both (eqb p c) _ _ (Owned from e)
-        (λ _. closes kind.Tuple f b from us p c e row h m)
-        (λ _. with_item kind.Tuple f b from us p c e row m)
+    from_items_lem f b from us p c e row h m = grind (arith, closes, with_item)
 
     grammar_owns : (q : Task) → Owns q (grammar reading page ts read q)
     grammar_owns (expr f b p e) = from_head_lem f b p e (head_at reading page ts f p e) (good_head reading law page ts p e f)
@@ -124,21 +94,14 @@ module _ (reading : Part → List Field → Result ℕ Denial) (law : (w : Part)
 
   stuck_owns : (q : Task) → Owns q (refused refusal.SheetFull)
   stuck_owns (expr f b p e) = tt
-  stuck_owns (climb f b t p e) = λ _ _ _. tt
-  stuck_owns (items f b from us p c e) = λ _ _ _. tt
+  stuck_owns q = λ _ _ _. tt
 
-  read_owns : (q : Task) → Owns q (read_task reading page ts q)
+  pub read_owns : (q : Task) → Owns q (read_task reading page ts q)
   unfolding read_task
   read_owns = tied_keeps left (refused refusal.SheetFull) (grammar reading page ts) Owns stuck_owns grammar_owns
 
 pub reads_own : ReadsOwn
-reads_own reading law page ts f b p e t q is =
-    let got = subst (Owned p e) is (read_owns reading law page ts (expr f b p e)) in
-    let some = some_tokens t got.0 in
-    (got.0, got.1, got.2, omega (arith, got.1, got.2), got.3)
+reads_own reading law page ts f b p e t q is = grind (arith, read_owns reading law page ts (expr f b p e), some_tokens)
 
 pub few_nodes : FewNodes
-few_nodes reading law page ts f b p e t q is =
-    let got = reads_own reading law page ts f b p e t q is in
-    let most = few t got.0 in
-    (omega (arith, got.1, got.2), inside e t got.0 (omega (arith, got.2, got.4)))
+few_nodes reading law page ts f b p e t q is = grind (arith, reads_own reading law page ts f b p e t q is, few, inside)

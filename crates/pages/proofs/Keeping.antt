@@ -69,7 +69,7 @@ all_placed room page =
 -- the groups of a page that is accepted nest
 closed : (ts : List Token) (o : Option ℕ) → still_open ts o ≡ None → o ≡ None
 closed ts None e = refl
-closed ts (Some p) e = absurd (let z : ◌≡◌ {A = ℕ} 0 1 = cc in omega arith)
+closed ts (Some p) e = absurd cc
 
 pub nested : (room : ℕ) (page : List ℕ) → fault_of room page ≡ None → Nested (tokens_of room page)
 unfolding fault_of
@@ -78,5 +78,5 @@ nested room page none =
     let l = kept room page P (λ h t m p at-page took. matched_more room h t m p took) matched_none in
     let shut-now : l.0.inner ≡ None =
     ⊎_elim (λ e. closed l.0.tokens l.0.inner (ap (λ (o : Outcome). o.fault) (sym e) ∙ none))
-    (λ r. absurd (let s : Some r.0 ≡ None = ap (λ (o : Outcome). o.fault) (sym r.1) ∙ none in let z : ◌≡◌ {A = ℕ} 0 1 = cc in omega arith)) l.2 in
+    (λ r. absurd (let s : Some r.0 ≡ None = ap (λ (o : Outcome). o.fault) (sym r.1) ∙ none in cc)) l.2 in
     subst Nested (sym (left_tokens room page P l)) (all_nested l.0.tokens (subst (Matched l.0.tokens) shut-now l.1))

@@ -27,7 +27,7 @@ module _ (ts : List Token) (x : Token) where
   past i h d n e =
       let end : length (ts ++ x ∷ []) ≤ i = omega (arith, length_push ts x) in
       let none : look_in (ts ++ x ∷ []) i ≡ Name Plain = ap (λ (t : Token). t.look) (get_or_past (ts ++ x ∷ []) i no_token end) in
-      let z : ◌≡◌ {A = ℕ} 0 1 = cc in omega arith
+      cc
 
   -- an opener is not the last token, if that is none
   opener_before : NoOpener x.look → (i : ℕ) (d : Delimiter) (n : ℕ) → look_in (ts ++ x ∷ []) i ≡ Open d n → i < length ts
@@ -68,7 +68,7 @@ chain_set ts x at (p ∷ ps) o below c =
 -- the opener around a new one is the innermost before it
 around_back : (n : ℕ) (o : Option ℕ) (ps : List ℕ) (ts : List Token) → length ts ≡ n → Chain ts o ps → around n (places_back n o) ≡ o
 around_back n None ps ts e c = refl
-around_back n (Some q) [] ts e c = absurd (let z : ◌≡◌ {A = ℕ} 0 1 = cc in omega arith)
+around_back n (Some q) [] ts e c = absurd cc
 around_back n (Some q) (p ∷ ps) ts e c =
     let same : q ≡ p = cc c.2 in
     let within : p < length ts = c.3 in
@@ -158,7 +158,7 @@ module _ (ts : List Token) (t : Token) (d : Delimiter) (p k : ℕ) (closes : t.l
   before_closer : (i : ℕ) (e : Delimiter) (n : ℕ) → look_in all i ≡ Open e n → i < length ts
   unfolding all
   before_closer i e n is =
-      let h = opener_before (set ts p new) t (λ f m o. let z : ◌≡◌ {A = ℕ} 0 1 = cc in omega arith) i e n is in
+      let h = opener_before (set ts p new) t (λ f m o. cc) i e n is in
       omega (arith, length-set ts p new)
 
   -- the group that is closed now
@@ -184,7 +184,7 @@ module _ (ts : List Token) (t : Token) (d : Delimiter) (p k : ℕ) (closes : t.l
       record {
         least = a;
         inside = omega (arith, all_length);
-        closer = same_look (i + n - 1) (omega arith) (λ at. let is : Close e ≡ Open d k = sym g.closer ∙ (ap (look_in ts) at ∙ opens) in let z : ◌≡◌ {A = ℕ} 0 1 = cc in omega arith) ∙ g.closer;
+        closer = same_look (i + n - 1) (omega arith) (λ at. let is : Close e ≡ Open d k = sym g.closer ∙ (ap (look_in ts) at ∙ opens) in cc) ∙ g.closer;
         between = λ j f m low high is.
             let other : j ≡ p → ⊥ = λ at. ⊎_elim (λ l. omega arith) (λ r. omega arith) side in
             g.between j f m low high (sym (same_look j (omega arith) other) ∙ is);
@@ -209,7 +209,7 @@ module _ (ts : List Token) (t : Token) (d : Delimiter) (p k : ℕ) (closes : t.l
       (old_group i e n w.0 w.1.0, w.1.1)
 
   shut_with : (ps : List ℕ) → Chain ts (Some p) ps → Closed ts ps → Matched all (around p k)
-  shut_with [] c others = absurd (let z : ◌≡◌ {A = ℕ} 0 1 = cc in omega arith)
+  shut_with [] c others = absurd cc
   shut_with (q ∷ ps) c others =
       let same : q ≡ p = cc c.2 in
       let link : k ≡ c.1 = cc c.4 in
@@ -228,13 +228,13 @@ moved ts us o q e i m = subst (λ (l : List Token). Matched l o) (sym e) (subst 
 
 none_open : (ts : List Token) (ps : List ℕ) → Chain ts None ps → Closed ts ps → (i : ℕ) (d : Delimiter) (n : ℕ) → look_in ts i ≡ Open d n → Group ts i d n
 none_open ts [] c others i d n is = (others i d n tt is).0
-none_open ts (p ∷ ps) c others i d n is = absurd (let e : None ≡ Some p = c.2 in let z : ◌≡◌ {A = ℕ} 0 1 = cc in omega arith)
+none_open ts (p ∷ ps) c others i d n is = absurd (let e : None ≡ Some p = c.2 in cc)
 
 pub matched_none : Matched [] None
 matched_none = record {
   open_places = [];
   chain = refl;
-  others = λ i d n apart is. absurd (let z : ◌≡◌ {A = ℕ} 0 1 = cc in omega arith);
+  others = λ i d n apart is. absurd cc;
 }
 
 pub matched_more : (room : ℕ) (h : Held) (t : Token) (m : Held) → Matched h.tokens h.inner → Took room h t m → Matched m.tokens m.inner

@@ -1,5 +1,5 @@
 -- The three ways in which a token is taken in. Assumes nothing.
-use Rattle.std.proofs.Common.{◌≡◌, ℕ, ◌+◌, ◌-◌, ◌<◌, Bool, true, false, cond, ltb, List, [], ◌∷◌, ◌++◌, length, get_or, set, Some, None, Ok, Err, Option, Result, sym, refl, ap, ◌∙◌, subst, arith}
+use Rattle.std.proofs.Common.{◌≡◌, ℕ, ◌+◌, ◌-◌, ◌<◌, Bool, true, false, cond, ltb, List, [], ◌∷◌, ◌++◌, length, get_or, set, Some, None, Ok, Err, Option, Result, sym, refl, ap, ◌∙◌, subst}
 use Rattle.std.proofs.lemmas.List.{length-set}
 use Rattle.std.proofs.lemmas.Bool.{ltb-true}
 use Rattle.refusals.specs.declared.Refusal.{Refusal}
@@ -22,28 +22,28 @@ pub data Took (room : ℕ) (h : Held) (t : Token) : Held → Type 0 where
 
 same_is : (d e : Delimiter) → same_delimiter d e ≡ true → d ≡ e
 same_is Paren Paren h = refl
-same_is Paren Bracket h = absurd (let z : ◌≡◌ {A = ℕ} 0 1 = cc in omega arith)
-same_is Paren Brace h = absurd (let z : ◌≡◌ {A = ℕ} 0 1 = cc in omega arith)
-same_is Bracket Paren h = absurd (let z : ◌≡◌ {A = ℕ} 0 1 = cc in omega arith)
+same_is Paren Bracket h = absurd cc
+same_is Paren Brace h = absurd cc
+same_is Bracket Paren h = absurd cc
 same_is Bracket Bracket h = refl
-same_is Bracket Brace h = absurd (let z : ◌≡◌ {A = ℕ} 0 1 = cc in omega arith)
-same_is Brace Paren h = absurd (let z : ◌≡◌ {A = ℕ} 0 1 = cc in omega arith)
-same_is Brace Bracket h = absurd (let z : ◌≡◌ {A = ℕ} 0 1 = cc in omega arith)
+same_is Bracket Brace h = absurd cc
+same_is Brace Paren h = absurd cc
+same_is Brace Bracket h = absurd cc
 same_is Brace Brace h = refl
 
 -- what a test let through
 pub passed : {A : Type 0} (b : Bool) (x : Result A Refusal) (e : Refusal) (y : A) → cond b x (Err e) ≡ Ok y → (b ≡ true) × (x ≡ Ok y)
 passed true x e y h = (refl, h)
-passed false x e y h = absurd (let z : ◌≡◌ {A = ℕ} 0 1 = cc in omega arith)
+passed false x e y h = absurd cc
 
-add_is : (room at : ℕ) (ts : List Token) (t : Token) (inner : Option ℕ) (m : Held) → added room at ts t inner ≡ Ok m → (length ts < room) × (m.tokens ≡ ts ++ t ∷ []) × (m.inner ≡ inner)
+pub add_is : (room at : ℕ) (ts : List Token) (t : Token) (inner : Option ℕ) (m : Held) → added room at ts t inner ≡ Ok m → (length ts < room) × (m.tokens ≡ ts ++ t ∷ []) × (m.inner ≡ inner)
 add_is room at ts t inner m e =
     let p = passed (ltb (length ts) room) _ _ m e in
     let q : record { tokens = ts ++ t ∷ []; inner = inner } ≡ m = cc p.1 in
     (ltb-true _ _ p.0, ap (λ (x : Held). x.tokens) (sym q), ap (λ (x : Held). x.inner) (sym q))
 
 pub never : {A : Type 0} (e : Refusal) (y : A) → Err e ≡ Ok y → ⊥
-never e y h = let z : ◌≡◌ {A = ℕ} 0 1 = cc in omega arith
+never e y h = cc
 
 module _ (room at : ℕ) (h : Held) (t : Token) (m : Held) where
   close_is : (d : Delimiter) (p : ℕ) (l : Look) → t.look ≡ Close d → h.inner ≡ Some p → (get_or h.tokens p no_token).look ≡ l → closed room at h.tokens t d p l ≡ Ok m → Took room h t m
@@ -68,12 +68,12 @@ module _ (room at : ℕ) (h : Held) (t : Token) (m : Held) where
   plain_is no-opener e = let a = add_is room at h.tokens t h.inner m e in plain m no-opener a.0 a.1 a.2
 
   by_look : (l : Look) → t.look ≡ l → step_by room at h t l ≡ Ok m → Took room h t m
-  by_look (Name w) i e = plain_is (λ d n o. let z : ◌≡◌ {A = ℕ} 0 1 = cc in omega arith) e
-  by_look (Mark x j) i e = plain_is (λ d n o. let z : ◌≡◌ {A = ℕ} 0 1 = cc in omega arith) e
-  by_look Integer i e = plain_is (λ d n o. let z : ◌≡◌ {A = ℕ} 0 1 = cc in omega arith) e
-  by_look Float i e = plain_is (λ d n o. let z : ◌≡◌ {A = ℕ} 0 1 = cc in omega arith) e
-  by_look Literal i e = plain_is (λ d n o. let z : ◌≡◌ {A = ℕ} 0 1 = cc in omega arith) e
-  by_look Lifetime i e = plain_is (λ d n o. let z : ◌≡◌ {A = ℕ} 0 1 = cc in omega arith) e
+  by_look (Name w) i e = plain_is (λ d n o. cc) e
+  by_look (Mark x j) i e = plain_is (λ d n o. cc) e
+  by_look Integer i e = plain_is (λ d n o. cc) e
+  by_look Float i e = plain_is (λ d n o. cc) e
+  by_look Literal i e = plain_is (λ d n o. cc) e
+  by_look Lifetime i e = plain_is (λ d n o. cc) e
   by_look (Open d n) i e =
       let a = add_is room at h.tokens (relooked t (Open d (places_back (length h.tokens) h.inner))) (Some (length h.tokens)) m e in
       opened m d a.0 a.1 a.2

@@ -79,3 +79,10 @@ text_by page ts place (Err e) = Err e
 
 abbrev pub text_of : List ℕ → ℕ → Result (List ℕ) Refusal
 text_of page place = text_by page (tokens_of 4096 page) place (page_answer 4096 page)
+
+-- what comes next, at the byte i, where a page is read field by field: none behind the last field, else the field with
+-- its byte, and what follows it is at j
+abbrev pub NextField : List ℕ → (i j : ℕ) → Option (Result (ℕ × Token) Refusal) → Type 0
+NextField page i j None = length page ≤ i
+NextField page i j (Some (Ok f)) = (i < length page) × (f.0 ≡ i) × (field_at page i ≡ Ok f.1) × (j ≡ f.1.start + f.1.len)
+NextField page i j (Some (Err e)) = (i < length page) × (field_at page i ≡ Err e)

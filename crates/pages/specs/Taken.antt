@@ -1,15 +1,30 @@
--- What a counted list becomes when a token is taken in. Assumes nothing.
-use Rattle.std.specs.Prelude.{◌≡◌, ℕ, ◌+◌, ◌≤◌, drop, Ok, Err, Option, Result}
-use Rattle.lists.specs.declared.Counted.{Counted}
-use Rattle.lists.specs.Lists.{items, rest, used, room, Same}
+-- What was taken in from a page, and what it becomes when one token more is. Assumes nothing.
+use Rattle.std.specs.Prelude.{◌≡◌, ℕ, ◌+◌, min, List, length, take, drop, Ok, Err, Result}
 use Rattle.refusals.specs.declared.Refusal.{Refusal}
 use Rattle.tokens.specs.declared.Token.{Token}
+use Rattle.pages.specs.declared.steps.Taken.{Taken}
 use Rattle.pages.specs.Steps.{Held}
 
-abbrev pub held : Counted Token → Option ℕ → Held
-held l inner = record { tokens = items l; inner = inner }
+abbrev pub items : Taken → List Token
+items t = take t.count t.space.now
 
--- l has become m, which holds what the definition says by one record more over the first of the rest, or is as it was
-abbrev pub Stepped : Result Held Refusal → Counted Token → Counted Token → Result (Option ℕ) Refusal → Type 0
-Stepped expected l m (Ok inner) = (expected ≡ Ok (held m inner)) × (rest m ≡ drop 1 (rest l)) × (used m ≡ used l + 1) × (used m ≤ room m)
-Stepped expected l m (Err e) = (expected ≡ Err e) × Same l m
+-- what the space holds behind the tokens
+abbrev pub rest : Taken → List Token
+rest t = drop t.count t.space.now
+
+abbrev pub held : Taken → Held
+held t = record { tokens = items t; inner = t.inner }
+
+-- how many tokens may be held
+abbrev pub most : Taken → ℕ
+most t = min (length t.space.now) 4096
+
+-- the same space, lent by the same lender
+pub record SameSpace (s t : Taken) : Type 0 where
+  pub size : length t.space.now ≡ length s.space.now
+  pub lender : t.space.ghost_name ≡ s.space.ghost_name
+
+-- s has become t, which holds what the definition says by one token more over the first of the rest, or is as it was
+abbrev pub Stepped : Result Held Refusal → Taken → Taken → Result (Unit {0}) Refusal → Type 0
+Stepped expected s t (Ok u) = (expected ≡ Ok (held t)) × (rest t ≡ drop 1 (rest s)) × (t.count ≡ s.count + 1) × SameSpace s t
+Stepped expected s t (Err e) = (expected ≡ Err e) × (t.space.now ≡ s.space.now) × (t.count ≡ s.count) × (t.inner ≡ s.inner) × SameSpace s t

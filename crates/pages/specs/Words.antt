@@ -1,5 +1,5 @@
 -- The word that a name spells: a keyword of Rust 2021, `_` or `raw`, and else a plain name. Assumes nothing.
-use Rattle.std.specs.Prelude.{ℕ, cond, List, [], ◌∷◌, length, codes, ◌==◌}
+use Rattle.std.specs.Prelude.{ℕ, cond, List, [], ◌∷◌, length, codes, ◌&&◌, nat_le}
 use Rattle.std.specs.Str.{bytes_eq}
 use Rattle.tokens.specs.declared.Word.{Word}
 use Rattle.tokens.specs.declared.Word.TheVariants.{Plain, Reserved, As, Async, Await, Become, Break, Const, Continue, Crate, Else, False, For, If, Let, Loop, Match, Move, Mut, Raw, Return, SelfType, SelfValue, Static, Super, True, Try, Underscore, Unsafe, While, Yield}
@@ -76,7 +76,7 @@ spellings =
 unfoldable pub word_of : List ℕ → Word
 word_of bytes = spelled bytes spellings
 
--- the spellings of one length
-abbrev pub of_length : ℕ → List Spelling → List Spelling
-of_length n [] = []
-of_length n (s ∷ ss) = cond (length s.0 == n) (s ∷ of_length n ss) (of_length n ss)
+-- the spellings that have from least to most bytes
+abbrev pub within : (least most : ℕ) → List Spelling → List Spelling
+within least most [] = []
+within least most (s ∷ ss) = cond (nat_le least (length s.0) && nat_le (length s.0) most) (s ∷ within least most ss) (within least most ss)

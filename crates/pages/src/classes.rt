@@ -4,7 +4,7 @@ ghost use Rattle.pages.specs.Classes.{class_of};
 
 #[derive(Clone, Copy)]
 pub enum Class {
-    // None of the others.
+    // None of the others. Each of the 256 rows names a class, and an option would add a word to each.
     Other,
     // An ASCII letter or `_`.
     Letter,

@@ -1,6 +1,6 @@
 // A field of a page: a tag, a length in two bytes and a value.
-ghost use Rattle.std.specs.Prelude.{◌≡◌, ◌+◌, ◌^◌, ◌<◌, ◌≤◌, length};
-ghost use Rattle.pages.specs.Fields.{tag_of, limits, mark_look, delimiter_of, open_look, close_look, look_of, looked, tagged, headed, field_at};
+ghost use Rattle.std.specs.Prelude.{◌≡◌, ◌+◌, ◌^◌, ◌<◌, ◌≤◌, length, Some, None, MatchResult};
+ghost use Rattle.pages.specs.Fields.{tag_of, limits, mark_look, delimiter_of, open_look, close_look, look_of, tagged, headed, field_at};
 
 use super::classes::{Class, class_of};
 use super::values::{is_float, is_integer, is_name};
@@ -21,34 +21,44 @@ enum Tag {
     Closer,
 }
 
+// A byte that is no tag.
+#[derive(Drop)]
+struct UnknownTag;
+
 // The kind of field that a tag byte names.
-fn tag_of(b: u8) -> Option<Tag>
-    ensures { result ≡ tag_of b }
-{
-    match b {
-        1 => Some(Tag::Name),
-        2 => Some(Tag::Mark),
-        3 => Some(Tag::Integer),
-        4 => Some(Tag::Float),
-        5 => Some(Tag::Literal),
-        6 => Some(Tag::Lifetime),
-        7 => Some(Tag::Opener),
-        8 => Some(Tag::Closer),
-        _ => None,
+impl TryFrom<u8> for Tag {
+    type Error = UnknownTag;
+
+    ghost try_from_gives = { λ b r. MatchResult r (λ tag. tag_of b ≡ Some tag) (λ _. tag_of b ≡ None) };
+
+    fn try_from(b: u8) -> Result<Tag, UnknownTag> {
+        match b {
+            1 => Ok(Tag::Name),
+            2 => Ok(Tag::Mark),
+            3 => Ok(Tag::Integer),
+            4 => Ok(Tag::Float),
+            5 => Ok(Tag::Literal),
+            6 => Ok(Tag::Lifetime),
+            7 => Ok(Tag::Opener),
+            8 => Ok(Tag::Closer),
+            _ => Err(UnknownTag),
+        }
     }
 }
 
-// The shortest and the longest value under a tag.
-fn limits_of(tag: Tag) -> (usize, usize)
-    ensures { result ≡ limits tag }
-{
-    match tag {
-        Tag::Name | Tag::Lifetime => (1, 64),
-        Tag::Mark => (2, 2),
-        Tag::Integer => (1, 20),
-        Tag::Float => (2, 40),
-        Tag::Literal => (1, 1024),
-        Tag::Opener | Tag::Closer => (1, 1),
+impl Tag {
+    // The shortest and the longest value under the tag.
+    fn limits(self) -> (usize, usize)
+        ensures { result ≡ limits self }
+    {
+        match self {
+            Tag::Name | Tag::Lifetime => (1, 64),
+            Tag::Mark => (2, 2),
+            Tag::Integer => (1, 20),
+            Tag::Float => (2, 40),
+            Tag::Literal => (1, 1024),
+            Tag::Opener | Tag::Closer => (1, 1),
+        }
     }
 }
 
@@ -56,11 +66,10 @@ fn limits_of(tag: Tag) -> (usize, usize)
 fn mark_look(bytes: &[u8]) -> Option<Look>
     ensures { result ≡ mark_look bytes.now }
 {
-    let [b, joined] = bytes else {
-        return None;
-    };
-    match class_of(*b) {
-        Class::Mark if *joined < 2 => Some(Look::Mark(char::from(*b), *joined == 1)),
+    match bytes {
+        [b, joined] if matches!(class_of(*b), Class::Mark) && *joined < 2 => {
+            Some(Look::Mark(char::from(*b), *joined == 1))
+        }
         _ => None,
     }
 }
@@ -80,23 +89,18 @@ fn delimiter_of(b: u8) -> Delimiter
 fn open_look(bytes: &[u8]) -> Option<Look>
     ensures { result ≡ open_look bytes.now }
 {
-    let [b] = bytes else {
-        return None;
-    };
-    match class_of(*b) {
-        Class::Opener => Some(Look::Open(delimiter_of(*b), 0)),
+    match bytes {
+        [b] if matches!(class_of(*b), Class::Opener) => Some(Look::Open(delimiter_of(*b), 0)),
         _ => None,
     }
 }
 
+// As `open_look`, but for the class and what is made: parameters for both would be no shorter.
 fn close_look(bytes: &[u8]) -> Option<Look>
     ensures { result ≡ close_look bytes.now }
 {
-    let [b] = bytes else {
-        return None;
-    };
-    match class_of(*b) {
-        Class::Closer => Some(Look::Close(delimiter_of(*b))),
+    match bytes {
+        [b] if matches!(class_of(*b), Class::Closer) => Some(Look::Close(delimiter_of(*b))),
         _ => None,
     }
 }
@@ -118,37 +122,24 @@ fn look_of(tag: Tag, bytes: &[u8]) -> Option<Look>
     }
 }
 
-// The token of the field at this place, by the look of its value.
-fn token_of(at: usize, len: usize, look: Option<Look>) -> Result<Token, Refusal>
-    requires { at + 3 < 2 ^ 64 }
-    ensures { result ≡ looked at len look }
-{
-    match look {
-        Some(look) => Ok(Token {
-            look,
-            start: at + 3,
-            len,
-        }),
-        None => Err(Refusal::BadField(at)),
-    }
-}
-
 // The field at this place with this tag and length, over the bytes behind its head.
-fn read_value(at: usize, tag: Option<Tag>, len: usize, rest: &[u8]) -> Result<Token, Refusal>
+fn read_value(at: usize, tag: Tag, len: usize, rest: &[u8]) -> Result<Token, Refusal>
     requires { at + 3 < 2 ^ 64 }
-    ensures { result ≡ tagged at tag len rest.now }
+    ensures { result ≡ tagged at (Some tag) len rest.now }
 {
-    let Some(tag) = tag else {
-        return Err(Refusal::BadField(at));
-    };
-    let (least, most) = limits_of(tag);
+    let (least, most) = tag.limits();
     if len < least || len > most {
         return Err(Refusal::BadField(at));
     }
     if len > rest.len() {
         return Err(Refusal::CutShort(at));
     }
-    token_of(at, len, look_of(tag, &rest[0..len]))
+    let look = look_of(tag, &rest[..len]).ok_or(Refusal::BadField(at))?;
+    Ok(Token {
+        look,
+        start: at + 3,
+        len,
+    })
 }
 
 // The field at this place, over the bytes from there on.
@@ -159,8 +150,9 @@ fn read_field(at: usize, bytes: &[u8]) -> Result<Token, Refusal>
     let [tag, high, low, rest @ ..] = bytes else {
         return Err(Refusal::CutShort(at));
     };
+    let tag = Tag::try_from(*tag).map_err(|_| Refusal::BadField(at))?;
     let len = usize::from(u16::from_be_bytes([*high, *low]));
-    read_value(at, tag_of(*tag), len, rest)
+    read_value(at, tag, len, rest)
 }
 
 // The token of the field that begins at a byte of the page.

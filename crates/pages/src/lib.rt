@@ -5,9 +5,10 @@ ghost use Rattle.std.specs.Prelude.{◌≡◌, min, length, IfOk, Ok, Err, Match
 ghost use Rattle.pages.specs.Pages.{tokens_of, page_answer, written_over, Accepted, text_of};
 
 pub use classes::{Class, class_of};
-use lists::Counted;
 use refusals::Refusal;
-use tokens::{Look, Token, Word};
+use steps::Taken;
+use tokens::Token;
+pub use values::is_name;
 use walk::walk;
 
 mod classes;
@@ -24,28 +25,16 @@ pub fn read_page(page: &[u8], space: &mut [Token]) -> Result<usize, Refusal>
     ensures records { space.new ≡ written_over space.old (tokens_of (min (length space.old) 4096) page.now) }
     ensures accepted { IfOk result (Accepted (length space.old) page.now) }
 {
-    let mut count = 0;
-    let mut list = Counted::new(space, &mut count);
-    walk(page, &mut list)
+    let mut taken = Taken::new(space);
+    walk(page, &mut taken)
 }
 
 // The value of the token at this place, as a part of the page. A page is refused as in a space for 4096 tokens.
 pub fn text<'a>(page: &'a [u8], place: usize) -> Result<&'a [u8], Refusal>
     ensures { MatchResult result (λ v. text_of page.now place ≡ Ok v.now) (λ e. text_of page.now place ≡ Err e) }
 {
-    let mut space = [Token {
-        look: Look::Name(Word::Plain),
-        start: 0,
-        len: 0,
-    }; 4096];
+    let mut space = [Token::default(); 4096];
     let count = read_page(page, &mut space)?;
-    if place >= count {
-        return Err(Refusal::NotThere);
-    }
-    let Token {
-        look: _,
-        start,
-        len,
-    } = space[place];
-    Ok(&page[start..start + len])
+    let token = space[..count].get(place).ok_or(Refusal::NotThere)?;
+    Ok(&page[token.start..token.start + token.len])
 }

@@ -1,152 +1,126 @@
-// One field more: its token is taken into the list, and groups are matched.
-ghost use Rattle.std.specs.Prelude.{◌≡◌, ◌<◌, ◌≤◌, min, IfSome, if◌then◌else◌, Ok, Err, nat_lt};
-ghost use Rattle.lists.specs.Lists.{items, used, room, Lent, Pushed, Same};
-ghost use Rattle.refusals.specs.declared.Refusal.TheVariants.{TooManyTokens};
-ghost use Rattle.pages.specs.Steps.{same_delimiter, places_back, around, added, closing, opening, step};
-ghost use Rattle.pages.specs.Taken.{held, Stepped};
+// One field more: its token is taken in, and groups are matched.
+ghost use Rattle.std.specs.Prelude.{◌≡◌, ◌<◌, ◌≤◌, length, None};
+ghost use Rattle.std.specs.Option.{ForSome};
+ghost use Rattle.pages.specs.Steps.{places_back, around, added, closing, opening, step};
 
-use lists::Counted;
+use lists::append;
 use refusals::Refusal;
 use tokens::{Delimiter, Look, Token};
 
 // No page has more tokens.
 const MOST_TOKENS: usize = 4096;
 
-// Adds a token at the end and answers its place, if there is room.
-fn add(list: &mut Counted<Token>, token: Token, at: usize) -> Result<usize, Refusal>
-    ensures value { result ≡ (if nat_lt (used list.old) (min (room list.old) 4096) then Ok (used list.old) else Err (TooManyTokens at)) }
-    ensures pushed { used list.old < min (room list.old) 4096 → Pushed list.old token list.new }
-    ensures full { min (room list.old) 4096 ≤ used list.old → Same list.old list.new }
-    ensures room { room list.new ≡ room list.old }
-    ensures lender { Lent list.old list.new }
-{
-    if list.count() >= MOST_TOKENS {
-        return Err(Refusal::TooManyTokens(at));
-    }
-    match list.push(token) {
-        Ok(place) => Ok(place),
-        Err(_) => Err(Refusal::TooManyTokens(at)),
-    }
+// What was taken in from a page: the tokens so far, and the place of the innermost opener that is still open. The space
+// stands here itself, and not in a counted list: a caller learns what is written through a reference only where the
+// struct has that reference as a field of its own.
+#[derive(Drop)]
+pub struct Taken<'s> {
+    space: &'s mut [Token],
+    count: usize,
+    inner: Option<usize>,
+    ghost held: { count ≤ length space.now },
+    ghost opened: { ForSome inner (λ p. p < count) },
 }
 
-fn same_delimiter(a: Delimiter, b: Delimiter) -> bool
-    ensures { result ≡ same_delimiter a b }
-{
-    match (a, b) {
-        (Delimiter::Paren, Delimiter::Paren) => true,
-        (Delimiter::Bracket, Delimiter::Bracket) => true,
-        (Delimiter::Brace, Delimiter::Brace) => true,
-        _ => false,
-    }
-}
-
-// How many places before this one the innermost opener stands, 0 where there is none.
-// An opener stands before the place, so the difference is never cut off at 0, here and below.
+// How many places before this one the innermost opener stands, 0 where there is none: the number is kept in an opener's
+// look. An opener stands before the place, so the difference is never cut off at 0, here and below.
 fn places_back(place: usize, inner: Option<usize>) -> usize
     ensures { result ≡ places_back place inner }
 {
-    match inner {
-        Some(opener) => place.saturating_sub(opener),
-        None => 0,
-    }
+    inner.map_or(0, |opener| place.saturating_sub(opener))
 }
 
 // The opener around the one at this place, by how many places back it stands.
 fn opener_around(place: usize, back: usize) -> Option<usize>
     ensures { result ≡ around place back }
 {
-    if back == 0 {
-        None
-    } else {
-        Some(place.saturating_sub(back))
+    (back != 0).then_some(place.saturating_sub(back))
+}
+
+impl<'s> Taken<'s> {
+    ghost use Rattle.pages.specs.Taken.{items, held, most, Stepped};
+    ghost use Rattle.pages.specs.Pages.{answer, still_open};
+
+    // Nothing, over this space.
+    pub fn new(space: &'s mut [Token]) -> Taken<'s>
+        ensures held { result.space.now ≡ space.old }
+        ensures count { result.count ≡ 0 }
+        ensures inner { result.inner ≡ None }
+        ensures lender { result.space.ghost_name ≡ space.entry.ghost_name }
+    {
+        Taken {
+            space,
+            count: 0,
+            inner: None,
+        }
     }
-}
 
-// Takes a token in that ends no group, with what is the innermost opener after it.
-fn keep(
-    list: &mut Counted<Token>,
-    inner: Option<usize>,
-    token: Token,
-    at: usize,
-) -> Result<Option<usize>, Refusal>
-    requires { used list.old ≤ room list.old }
-    ensures stepped { Stepped (added (min (room list.old) 4096) at (items list.old) token inner) list.old list.new result }
-    ensures room { room list.new ≡ room list.old }
-    ensures lender { Lent list.old list.new }
-{
-    let _place = add(list, token, at)?;
-    Ok(inner)
-}
-
-// Takes an opener in: until its closer comes it holds how many places back the opener around it stands.
-fn open(
-    list: &mut Counted<Token>,
-    inner: Option<usize>,
-    token: Token,
-    delimiter: Delimiter,
-    at: usize,
-) -> Result<Option<usize>, Refusal>
-    requires { used list.old ≤ room list.old }
-    ensures stepped { Stepped (opening (min (room list.old) 4096) at (held list.old inner) token delimiter) list.old list.new result }
-    ensures room { room list.new ≡ room list.old }
-    ensures lender { Lent list.old list.new }
-{
-    let place = list.count();
-    let look = Look::Open(delimiter, places_back(place, inner));
-    keep(list, Some(place), Token { look, ..token }, at)
-}
-
-// Takes a closer in: the innermost opener learns the size of its group, and the one around it is the innermost now.
-fn close(
-    list: &mut Counted<Token>,
-    inner: Option<usize>,
-    token: Token,
-    delimiter: Delimiter,
-    at: usize,
-) -> Result<Option<usize>, Refusal>
-    requires opened { IfSome inner (λ p. p < used list.old) }
-    requires held { used list.old ≤ room list.old }
-    ensures stepped { Stepped (closing (min (room list.old) 4096) at (items list.old) token delimiter inner) list.old list.new result }
-    ensures room { room list.new ≡ room list.old }
-    ensures lender { Lent list.old list.new }
-{
-    let Some(place) = inner else {
-        return Err(Refusal::Unbalanced(at));
-    };
-    let opener = list.get(place);
-    let Look::Open(opened, back) = opener.look else {
-        return Err(Refusal::Unbalanced(at));
-    };
-    if !same_delimiter(opened, delimiter) {
-        return Err(Refusal::Unbalanced(at));
+    // Takes a token in as it is, if there is room. The byte at which its field begins is for a refusal alone, here and
+    // below, so that the two are no struct.
+    fn add(&mut self, token: Token, at: usize) -> Result<(), Refusal>
+        ensures { Stepped (added (most self.old) at (items self.old) token self.old.inner) self.old self.new result }
+    {
+        let full = Refusal::TooManyTokens(at);
+        if self.count >= MOST_TOKENS {
+            return Err(full);
+        }
+        let _place = append(self.space, &mut self.count, token).map_err(|_| full)?;
+        Ok(())
     }
-    let closer = add(list, token, at)?;
-    list.put(
-        place,
-        Token {
-            look: Look::Open(opened, closer - place + 1),
-            ..opener
-        },
-    );
-    Ok(opener_around(place, back))
-}
 
-// Takes in the token of the field at this byte of the page, and answers the place of the innermost opener after it.
-pub fn take_in(
-    list: &mut Counted<Token>,
-    inner: Option<usize>,
-    token: Token,
-    at: usize,
-) -> Result<Option<usize>, Refusal>
-    requires opened { IfSome inner (λ p. p < used list.old) }
-    requires held { used list.old ≤ room list.old }
-    ensures stepped { Stepped (step (min (room list.old) 4096) at (held list.old inner) token) list.old list.new result }
-    ensures room { room list.new ≡ room list.old }
-    ensures lender { Lent list.old list.new }
-{
-    match token.look {
-        Look::Open(delimiter, _) => open(list, inner, token, delimiter, at),
-        Look::Close(delimiter) => close(list, inner, token, delimiter, at),
-        _ => keep(list, inner, token, at),
+    // Takes an opener in: until its closer comes it holds how many places back the opener around it stands.
+    fn open(&mut self, token: Token, delimiter: Delimiter, at: usize) -> Result<(), Refusal>
+        ensures { Stepped (opening (most self.old) at (held self.old) token delimiter) self.old self.new result }
+    {
+        let place = self.count;
+        let look = Look::Open(delimiter, places_back(place, self.inner));
+        self.add(Token { look, ..token }, at)?;
+        self.inner = Some(place);
+        Ok(())
+    }
+
+    // Takes a closer in: the innermost opener learns the size of its group, and the one around it is the innermost now.
+    fn close(&mut self, token: Token, delimiter: Delimiter, at: usize) -> Result<(), Refusal>
+        ensures { Stepped (closing (most self.old) at (items self.old) token delimiter self.old.inner) self.old self.new result }
+    {
+        let place = self.inner.ok_or(Refusal::Unbalanced(at))?;
+        let opener = self.space[place];
+        let Look::Open(opened, back) = opener.look else {
+            return Err(Refusal::Unbalanced(at));
+        };
+        if opened != delimiter {
+            return Err(Refusal::Unbalanced(at));
+        }
+        let closer = self.count;
+        self.add(token, at)?;
+        let look = Look::Open(opened, closer - place + 1);
+        self.space[place] = Token { look, ..opener };
+        self.inner = opener_around(place, back);
+        Ok(())
+    }
+
+    // Takes in the token of the field at this byte of the page.
+    pub fn take_in(&mut self, token: Token, at: usize) -> Result<(), Refusal>
+        ensures { Stepped (step (most self.old) at (held self.old) token) self.old self.new result }
+    {
+        match token.look {
+            Look::Open(delimiter, _) => self.open(token, delimiter, at),
+            Look::Close(delimiter) => self.close(token, delimiter, at),
+            _ => self.add(token, at),
+        }
+    }
+
+    // After the last field: how many tokens there are, unless an opener is still open. Its value stands behind a head of
+    // three bytes, so the difference is never cut off at 0.
+    pub fn finish(&self) -> Result<usize, Refusal>
+        ensures { result ≡ answer (still_open (items self.now) self.now.inner) self.now.count }
+    {
+        match self.inner {
+            None => Ok(self.count),
+            Some(place) => {
+                let start = self.space[place].start;
+                Err(Refusal::Unbalanced(start.saturating_sub(3)))
+            }
+        }
     }
 }

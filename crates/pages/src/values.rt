@@ -1,6 +1,6 @@
 // Which bytes the value of a field may have.
 ghost use Rattle.std.specs.Prelude.{◌≡◌};
-ghost use Rattle.pages.specs.Values.{begins_name, digit, in_name, every, after_digits, is_name, is_suffix, is_integer, is_fraction, is_float};
+ghost use Rattle.pages.specs.Values.{begins_name, digit, in_name, after_digits, is_name, is_suffix, is_integer, is_fraction, is_float};
 
 use super::classes::{Class, class_of};
 
@@ -8,70 +8,35 @@ use super::classes::{Class, class_of};
 fn begins_name(b: u8) -> bool
     ensures { result ≡ begins_name b }
 {
-    match class_of(b) {
-        Class::Letter => true,
-        _ => false,
-    }
+    matches!(class_of(b), Class::Letter)
 }
 
 fn is_digit(b: u8) -> bool
     ensures { result ≡ digit b }
 {
-    match class_of(b) {
-        Class::Digit => true,
-        _ => false,
-    }
+    matches!(class_of(b), Class::Digit)
 }
 
 fn is_in_name(b: u8) -> bool
     ensures { result ≡ in_name b }
 {
-    match class_of(b) {
-        Class::Letter | Class::Digit => true,
-        _ => false,
-    }
-}
-
-// Whether all bytes are letters, digits or `_`.
-fn all_in_name(bytes: &[u8]) -> bool
-    ensures { result ≡ every in_name bytes.now }
-{
-    for b in bytes {
-        if !is_in_name(*b) {
-            return false;
-        }
-    }
-    true
-}
-
-fn all_digits(bytes: &[u8]) -> bool
-    ensures { result ≡ every digit bytes.now }
-{
-    for b in bytes {
-        if !is_digit(*b) {
-            return false;
-        }
-    }
-    true
+    matches!(class_of(b), Class::Letter | Class::Digit)
 }
 
 // What follows the digits at the start.
 fn after_digits(bytes: &[u8]) -> &[u8]
     ensures { result.now ≡ after_digits bytes.now }
 {
-    for (i, b) in bytes.iter().enumerate() {
-        if !is_digit(*b) {
-            return &bytes[i..];
-        }
-    }
-    &[]
+    let digits = bytes.iter().take_while(|b| is_digit(**b)).count();
+    &bytes[digits..]
 }
 
+// Whether these bytes are a name: a letter or `_`, then letters, digits or `_`.
 pub fn is_name(bytes: &[u8]) -> bool
     ensures { result ≡ is_name bytes.now }
 {
     match bytes {
-        [first, rest @ ..] => begins_name(*first) && all_in_name(rest),
+        [first, rest @ ..] => begins_name(*first) && rest.iter().all(|b| is_in_name(*b)),
         [] => false,
     }
 }
@@ -101,11 +66,12 @@ fn is_fraction(bytes: &[u8]) -> bool
     ensures { result ≡ is_fraction bytes.now }
 {
     match bytes {
-        [b'.', rest @ ..] => all_digits(rest),
+        [b'.', rest @ ..] => rest.iter().all(|b| is_digit(*b)),
         _ => false,
     }
 }
 
+// As `is_integer`, but for the test of what follows the digits: a parameter for it would be no shorter.
 pub fn is_float(bytes: &[u8]) -> bool
     ensures { result ≡ is_float bytes.now }
 {

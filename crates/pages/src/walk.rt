@@ -1,41 +1,59 @@
 // The walk over a page, field after field.
-ghost use Rattle.std.specs.Prelude.{◌≡◌, ◌<◌, ◌≤◌, min, IfSome, IfOk, slice_index_or};
-ghost use Rattle.lists.specs.Lists.{items, used, room, Lent};
-ghost use Rattle.tokens.specs.Looks.{no_token};
-ghost use Rattle.pages.specs.Pages.{answer, still_open, tokens_of, page_answer, written_over, Accepted};
+ghost use Rattle.std.specs.Prelude.{◌≡◌, ◌-◌, ◌≤◌, length, min, IfOk, None};
+ghost use Rattle.std.specs.Iterator.{at_most};
+ghost use Rattle.pages.specs.Pages.{NextField, tokens_of, page_answer, written_over, Accepted};
 
 use super::fields::field_at;
-use super::steps::take_in;
-use lists::Counted;
+use super::steps::Taken;
 use refusals::Refusal;
 use tokens::Token;
 
-// After the last field: how many tokens there are, unless an opener is still open.
-fn finish(list: &Counted<Token>, inner: Option<usize>) -> Result<usize, Refusal>
-    requires opened { IfSome inner (λ p. (p < used list.now) × (3 ≤ (slice_index_or (items list.now) p no_token).start)) }
-    requires held { used list.now ≤ room list.now }
-    ensures { result ≡ answer (still_open (items list.now) inner) (used list.now) }
-{
-    match inner {
-        None => Ok(list.count()),
-        Some(place) => Err(Refusal::Unbalanced(list.get(place).start - 3)),
+// The fields of a page in order, each with the byte where it begins, up to the first that is refused.
+#[derive(Drop)]
+struct Fields<'p> {
+    page: &'p [u8],
+    at: usize,
+    ghost inside: { at ≤ length page.now },
+}
+
+impl<'p> Iterator for Fields<'p> {
+    type Item = Result<(usize, Token), Refusal>;
+
+    ghost next_gives = { λ f r g. (g.page.now ≡ f.page.now) × NextField f.page.now f.at g.at r };
+
+    ghost remaining = { λ f. at_most (length f.page.now - f.at) };
+
+    fn next(&mut self) -> Option<Result<(usize, Token), Refusal>> {
+        if self.at >= self.page.len() {
+            return None;
+        }
+        let at = self.at;
+        match field_at(self.page, at) {
+            Ok(token) => {
+                self.at = token.start + token.len;
+                Some(Ok((at, token)))
+            }
+            Err(refusal) => {
+                self.at = self.page.len();
+                Some(Err(refusal))
+            }
+        }
     }
 }
 
-// Reads the fields of a page in order, and takes their tokens into an empty list.
-pub fn walk(page: &[u8], list: &mut Counted<Token>) -> Result<usize, Refusal>
-    requires { used list.old ≡ 0 }
-    ensures answer { result ≡ page_answer (min (room list.old) 4096) page.now }
-    ensures records { list.new.space.now ≡ written_over list.old.space.now (tokens_of (min (room list.old) 4096) page.now) }
-    ensures accepted { IfOk result (Accepted (room list.old) page.now) }
-    ensures lender { Lent list.old list.new }
+// Reads the fields of a page in order, and takes their tokens in.
+pub fn walk(page: &[u8], taken: &mut Taken) -> Result<usize, Refusal>
+    requires tokens { taken.old.count ≡ 0 }
+    requires inner { taken.old.inner ≡ None }
+    ensures answer { result ≡ page_answer (min (length taken.old.space.now) 4096) page.now }
+    ensures records { taken.new.space.now ≡ written_over taken.old.space.now (tokens_of (min (length taken.old.space.now) 4096) page.now) }
+    ensures accepted { IfOk result (Accepted (length taken.old.space.now) page.now) }
+    ensures lender { taken.new.space.ghost_name ≡ taken.old.space.ghost_name }
 {
-    let mut at = 0;
-    let mut inner = None;
-    while at < page.len() {
-        let token = field_at(page, at)?;
-        inner = take_in(list, inner, token, at)?;
-        at = token.start + token.len;
+    let fields = Fields { page, at: 0 };
+    for field in fields {
+        let (at, token) = field?;
+        taken.take_in(token, at)?;
     }
-    finish(list, inner)
+    taken.finish()
 }

@@ -1,164 +1,86 @@
-// The word that a name spells. Names are compared with the spellings of their own length alone.
+// The word that a name spells. Names are compared with the spellings of about their own length alone.
 ghost use Rattle.std.specs.Prelude.{◌≡◌};
-ghost use Rattle.std.specs.Str.{bytes_eq};
-ghost use Rattle.pages.specs.Words.{word_of, spelled, spellings, of_length};
+ghost use Rattle.pages.specs.Words.{word_of, spelled, spellings, within};
 
 use tokens::Word;
 
-// Whether a name is this word.
-fn spells(bytes: &[u8], word: &[u8]) -> bool
-    ensures { result ≡ bytes_eq bytes.now word.now }
+// What a name of one to three bytes spells.
+fn word_of_one_to_three(bytes: &[u8]) -> Word
+    ensures { result ≡ spelled bytes.now (within 1 3 spellings) }
 {
-    bytes == word
-}
-
-fn word_of_one(bytes: &[u8]) -> Word
-    ensures { result ≡ spelled bytes.now (of_length 1 spellings) }
-{
-    if spells(bytes, b"_") {
-        Word::Underscore
-    } else {
-        Word::Plain
+    match bytes {
+        b"_" => Word::Underscore,
+        b"as" => Word::As,
+        b"if" => Word::If,
+        b"for" => Word::For,
+        b"let" => Word::Let,
+        b"mut" => Word::Mut,
+        b"raw" => Word::Raw,
+        b"try" => Word::Try,
+        b"do" | b"fn" | b"in" | b"box" | b"dyn" | b"mod" | b"pub" | b"ref" | b"use" =>
+            Word::Reserved,
+        _ => Word::Plain,
     }
 }
 
-fn word_of_two(bytes: &[u8]) -> Word
-    ensures { result ≡ spelled bytes.now (of_length 2 spellings) }
-{
-    if spells(bytes, b"as") {
-        Word::As
-    } else if spells(bytes, b"if") {
-        Word::If
-    } else if spells(bytes, b"do") || spells(bytes, b"fn") || spells(bytes, b"in") {
-        Word::Reserved
-    } else {
-        Word::Plain
-    }
-}
-
-fn word_of_three(bytes: &[u8]) -> Word
-    ensures { result ≡ spelled bytes.now (of_length 3 spellings) }
-{
-    if spells(bytes, b"for") {
-        Word::For
-    } else if spells(bytes, b"let") {
-        Word::Let
-    } else if spells(bytes, b"mut") {
-        Word::Mut
-    } else if spells(bytes, b"raw") {
-        Word::Raw
-    } else if spells(bytes, b"try") {
-        Word::Try
-    } else if spells(bytes, b"box")
-        || spells(bytes, b"dyn")
-        || spells(bytes, b"mod")
-        || spells(bytes, b"pub")
-        || spells(bytes, b"ref")
-        || spells(bytes, b"use")
-    {
-        Word::Reserved
-    } else {
-        Word::Plain
-    }
-}
-
+// What a name of four bytes spells.
 fn word_of_four(bytes: &[u8]) -> Word
-    ensures { result ≡ spelled bytes.now (of_length 4 spellings) }
+    ensures { result ≡ spelled bytes.now (within 4 4 spellings) }
 {
-    if spells(bytes, b"else") {
-        Word::Else
-    } else if spells(bytes, b"loop") {
-        Word::Loop
-    } else if spells(bytes, b"move") {
-        Word::Move
-    } else if spells(bytes, b"self") {
-        Word::SelfValue
-    } else if spells(bytes, b"Self") {
-        Word::SelfType
-    } else if spells(bytes, b"true") {
-        Word::True
-    } else if spells(bytes, b"enum")
-        || spells(bytes, b"impl")
-        || spells(bytes, b"priv")
-        || spells(bytes, b"type")
-    {
-        Word::Reserved
-    } else {
-        Word::Plain
+    match bytes {
+        b"else" => Word::Else,
+        b"loop" => Word::Loop,
+        b"move" => Word::Move,
+        b"self" => Word::SelfValue,
+        b"Self" => Word::SelfType,
+        b"true" => Word::True,
+        b"enum" | b"impl" | b"priv" | b"type" => Word::Reserved,
+        _ => Word::Plain,
     }
 }
 
+// What a name of five bytes spells.
 fn word_of_five(bytes: &[u8]) -> Word
-    ensures { result ≡ spelled bytes.now (of_length 5 spellings) }
+    ensures { result ≡ spelled bytes.now (within 5 5 spellings) }
 {
-    if spells(bytes, b"async") {
-        Word::Async
-    } else if spells(bytes, b"await") {
-        Word::Await
-    } else if spells(bytes, b"break") {
-        Word::Break
-    } else if spells(bytes, b"const") {
-        Word::Const
-    } else if spells(bytes, b"crate") {
-        Word::Crate
-    } else if spells(bytes, b"false") {
-        Word::False
-    } else if spells(bytes, b"match") {
-        Word::Match
-    } else if spells(bytes, b"super") {
-        Word::Super
-    } else if spells(bytes, b"while") {
-        Word::While
-    } else if spells(bytes, b"yield") {
-        Word::Yield
-    } else if spells(bytes, b"final")
-        || spells(bytes, b"macro")
-        || spells(bytes, b"trait")
-        || spells(bytes, b"where")
-    {
-        Word::Reserved
-    } else {
-        Word::Plain
+    match bytes {
+        b"async" => Word::Async,
+        b"await" => Word::Await,
+        b"break" => Word::Break,
+        b"const" => Word::Const,
+        b"crate" => Word::Crate,
+        b"false" => Word::False,
+        b"match" => Word::Match,
+        b"super" => Word::Super,
+        b"while" => Word::While,
+        b"yield" => Word::Yield,
+        b"final" | b"macro" | b"trait" | b"where" => Word::Reserved,
+        _ => Word::Plain,
     }
 }
 
+// What a name of six bytes spells.
 fn word_of_six(bytes: &[u8]) -> Word
-    ensures { result ≡ spelled bytes.now (of_length 6 spellings) }
+    ensures { result ≡ spelled bytes.now (within 6 6 spellings) }
 {
-    if spells(bytes, b"become") {
-        Word::Become
-    } else if spells(bytes, b"return") {
-        Word::Return
-    } else if spells(bytes, b"static") {
-        Word::Static
-    } else if spells(bytes, b"unsafe") {
-        Word::Unsafe
-    } else if spells(bytes, b"extern") || spells(bytes, b"struct") || spells(bytes, b"typeof") {
-        Word::Reserved
-    } else {
-        Word::Plain
+    match bytes {
+        b"become" => Word::Become,
+        b"return" => Word::Return,
+        b"static" => Word::Static,
+        b"unsafe" => Word::Unsafe,
+        b"extern" | b"struct" | b"typeof" => Word::Reserved,
+        _ => Word::Plain,
     }
 }
 
-fn word_of_seven(bytes: &[u8]) -> Word
-    ensures { result ≡ spelled bytes.now (of_length 7 spellings) }
+// What a name of seven or eight bytes spells.
+fn word_of_seven_or_eight(bytes: &[u8]) -> Word
+    ensures { result ≡ spelled bytes.now (within 7 8 spellings) }
 {
-    if spells(bytes, b"unsized") || spells(bytes, b"virtual") {
-        Word::Reserved
-    } else {
-        Word::Plain
-    }
-}
-
-fn word_of_eight(bytes: &[u8]) -> Word
-    ensures { result ≡ spelled bytes.now (of_length 8 spellings) }
-{
-    if spells(bytes, b"continue") {
-        Word::Continue
-    } else if spells(bytes, b"abstract") || spells(bytes, b"override") {
-        Word::Reserved
-    } else {
-        Word::Plain
+    match bytes {
+        b"continue" => Word::Continue,
+        b"unsized" | b"virtual" | b"abstract" | b"override" => Word::Reserved,
+        _ => Word::Plain,
     }
 }
 
@@ -167,14 +89,11 @@ pub fn word_of(bytes: &[u8]) -> Word
     ensures { result ≡ word_of bytes.now }
 {
     match bytes.len() {
-        1 => word_of_one(bytes),
-        2 => word_of_two(bytes),
-        3 => word_of_three(bytes),
+        1..=3 => word_of_one_to_three(bytes),
         4 => word_of_four(bytes),
         5 => word_of_five(bytes),
         6 => word_of_six(bytes),
-        7 => word_of_seven(bytes),
-        8 => word_of_eight(bytes),
+        7..=8 => word_of_seven_or_eight(bytes),
         _ => Word::Plain,
     }
 }

@@ -1,5 +1,5 @@
 -- What the definition of reading says at a place, one step deep. Assumes nothing.
-use Rattle.std.proofs.Common.{◌≡◌, ℕ, ◌+◌, ◌-◌, ◌<◌, ◌≤◌, Bool, true, cond, eqb, List, [], ◌∷◌, Result, refl, ap, ◌∙◌, arith, lt-ltb}
+use Rattle.std.proofs.Common.{◌≡◌, ℕ, ◌+◌, ◌-◌, ◌<◌, ◌≤◌, Bool, true, cond, eqb, List, [], ◌∷◌, Ok, Result, refl, ap, ◌∙◌, arith, lt-ltb}
 use Rattle.std.proofs.lemmas.Bool.{cond-true}
 use Rattle.refusals.specs.declared.Part.{Part}
 use Rattle.refusals.specs.declared.Part.TheVariants as part
@@ -26,6 +26,7 @@ use Rattle.reading.specs.Moves.{frame, no_links}
 use Rattle.reading.specs.Machine.{Wait, again, after_by, resume}
 use Rattle.reading.specs.declared.frames.Links.{Links}
 use Rattle.reading.specs.declared.frames.Job.TheVariants as job
+use Rattle.reading.specs.declared.frames.Scope.{Scope}
 use Rattle.reading.specs.declared.frames.Frame.{Frame}
 
 abbrev stuck : Outcome
@@ -33,6 +34,13 @@ stuck = refused refusal.SheetFull
 
 abbrev pub wait : Frame → ℕ → Trees → Wait
 wait f p us = record { frame = f; at = p; held = us }
+
+-- an operand, and what follows one, in a scope
+abbrev pub expr_in : Scope → ℕ → Task
+expr_in g p = expr g.structs g.base p g.end
+
+abbrev pub climb_in : Scope → Tree → ℕ → Task
+climb_in g t p = climb g.structs g.base t p g.end
 
 module _ (reading : Part → List Field → Result ℕ Denial) (page : List ℕ) (ts : List Token) where
   abbrev pub R : Task → Outcome
@@ -59,52 +67,52 @@ module _ (reading : Part → List Field → Result ℕ Denial) (page : List ℕ)
 
   pub resume_refused : (ws : List Wait) (e : ℕ) (r : Refusal) → resume reading page ts ws e (refused r) ≡ refused r
   resume_refused [] e r = refl
-  resume_refused (w ∷ ws) e r = resume_refused ws w.frame.end r
+  resume_refused (w ∷ ws) e r = resume_refused ws w.frame.scope.end r
 
-  module _ (f : Bool) (b p e : ℕ) where
-    pub at_head : (h : Head) → head_at reading page ts f p e ≡ h → R (expr f b p e) ≡ from_head reading page ts (under (expr f b p e)) f b p e h
-    at_head h is = RIs (expr f b p e) ∙ ap (from_head reading page ts (under (expr f b p e)) f b p e) is
+  module _ (p : ℕ) (g : Scope) where
+    pub at_head : (h : Result Head Refusal) → head_at reading page ts g.structs p g.end ≡ h → R (expr_in g p) ≡ from_head reading page ts (under (expr_in g p)) g.structs g.base p g.end h
+    at_head h is = RIs (expr_in g p) ∙ ap (from_head reading page ts (under (expr_in g p)) g.structs g.base p g.end) is
 
-    pub leaf_means : (k : Kind) (q : ℕ) → head_at reading page ts f p e ≡ Leaf k q → p < q → q ≤ e
-        → R (expr f b p e) ≡ R (climb f b (branch (label k 0 p q) none) q e)
-    leaf_means k q is low high = at_head (Leaf k q) is ∙ RAsks (expr f b p e) (climb f b (branch (label k 0 p q) none) q e) (omega arith)
+    pub leaf_means : (k : Kind) (q : ℕ) → head_at reading page ts g.structs p g.end ≡ Ok (Leaf k q) → p < q → q ≤ g.end
+        → R (expr_in g p) ≡ R (climb_in g (branch (label k 0 p q) none) q)
+    leaf_means k q is low high = at_head (Ok (Leaf k q)) is ∙ RAsks (expr_in g p) (climb_in g (branch (label k 0 p q) none) q) (omega arith)
 
-    pub prefix_means : (k : Kind) (o q r : ℕ) → head_at reading page ts f p e ≡ Prefix k o q r → p < q → q ≤ e
-        → R (expr f b p e) ≡ and_then (R (expr f r q e)) (after_by reading page ts (job.Operand k o) (wait (frame (job.Operand k o) p b e f no_links) p none) e)
-    prefix_means k o q r is low high = at_head (Prefix k o q r) is ∙ first (expr f b p e) (expr f r q e) _ (omega arith)
+    pub prefix_means : (k : Kind) (o q r : ℕ) → head_at reading page ts g.structs p g.end ≡ Ok (Prefix k o q r) → p < q → q ≤ g.end
+        → R (expr_in g p) ≡ and_then (R (expr g.structs r q g.end)) (after_by reading page ts (job.Operand k o) (wait (frame (job.Operand k o) p g no_links) p none) g.end)
+    prefix_means k o q r is low high = at_head (Ok (Prefix k o q r)) is ∙ first (expr_in g p) (expr g.structs r q g.end) _ (omega arith)
 
-    pub group_means : (i c : ℕ) → head_at reading page ts f p e ≡ Group i c → p < i → i < c → c < e
-        → R (expr f b p e) ≡ and_then (R (expr true 0 i c)) (after_by reading page ts job.First (wait (frame job.First p b e f no_links) p none) c)
-    group_means i c is low mid high = at_head (Group i c) is ∙ first (expr f b p e) (expr true 0 i c) _ (omega arith)
+    pub group_means : (i c : ℕ) → head_at reading page ts g.structs p g.end ≡ Ok (Group i c) → p < i → i < c → c < g.end
+        → R (expr_in g p) ≡ and_then (R (expr true 0 i c)) (after_by reading page ts job.First (wait (frame job.First p g no_links) p none) c)
+    group_means i c is low mid high = at_head (Ok (Group i c)) is ∙ first (expr_in g p) (expr true 0 i c) _ (omega arith)
 
-  module _ (f : Bool) (b : ℕ) (t : Tree) (p e : ℕ) where
-    pub at_tail : (h : Tail) → tail_at ts f b (tree_rank t) p e ≡ h → R (climb f b t p e) ≡ from_tail reading page ts (under (climb f b t p e)) f b t p e h
-    at_tail h is = RIs (climb f b t p e) ∙ ap (from_tail reading page ts (under (climb f b t p e)) f b t p e) is
+  module _ (t : Tree) (p : ℕ) (g : Scope) where
+    pub at_tail : (h : Result Tail Refusal) → tail_at ts g.structs g.base (tree_rank t) p g.end ≡ h → R (climb_in g t p) ≡ from_tail reading page ts (under (climb_in g t p)) g.structs g.base t p g.end h
+    at_tail h is = RIs (climb_in g t p) ∙ ap (from_tail reading page ts (under (climb_in g t p)) g.structs g.base t p g.end) is
 
-    pub takes_means : (k : Links) (o : Infix) (q : ℕ) → tail_at ts f b (tree_rank t) p e ≡ Takes o q → p < q → q ≤ e
-        → R (climb f b t p e) ≡ and_then (R (expr f (above_rank (rank_of o)) q e)) (after_by reading page ts (job.Right o) (wait (frame (job.Right o) (label_of t).from b e f k) p (none then t)) e)
-    takes_means k o q is low high = at_tail (Takes o q) is ∙ first (climb f b t p e) (expr f (above_rank (rank_of o)) q e) _ (omega arith)
+    pub takes_means : (k : Links) (o : Infix) (q : ℕ) → tail_at ts g.structs g.base (tree_rank t) p g.end ≡ Ok (Takes o q) → p < q → q ≤ g.end
+        → R (climb_in g t p) ≡ and_then (R (expr g.structs (above_rank (rank_of o)) q g.end)) (after_by reading page ts (job.Right o) (wait (frame (job.Right o) (label_of t).from g k) p (none then t)) g.end)
+    takes_means k o q is low high = at_tail (Ok (Takes o q)) is ∙ first (climb_in g t p) (expr g.structs (above_rank (rank_of o)) q g.end) _ (omega arith)
 
-    pub endless_means : (q : ℕ) → tail_at ts f b (tree_rank t) p e ≡ Endless q → p < q → q ≤ e
-        → R (climb f b t p e) ≡ R (climb f b (branch (label kind.Range 0 (label_of t).from q) (none then t)) q e)
-    endless_means q is low high = at_tail (Endless q) is ∙ RAsks (climb f b t p e) (climb f b (branch (label kind.Range 0 (label_of t).from q) (none then t)) q e) (omega arith)
+    pub endless_means : (q : ℕ) → tail_at ts g.structs g.base (tree_rank t) p g.end ≡ Ok (Endless q) → p < q → q ≤ g.end
+        → R (climb_in g t p) ≡ R (climb_in g (branch (label kind.Range 0 (label_of t).from q) (none then t)) q)
+    endless_means q is low high = at_tail (Ok (Endless q)) is ∙ RAsks (climb_in g t p) (climb_in g (branch (label kind.Range 0 (label_of t).from q) (none then t)) q) (omega arith)
 
-    pub casts_means : (k : Links) (i : ℕ) → tail_at ts f b (tree_rank t) p e ≡ Casts i
-        → R (climb f b t p e) ≡ and_then (part_at reading page ts kind.TypeName part.TypeName i e) (after_by reading page ts job.CastTo (wait (frame job.CastTo (label_of t).from b e f k) p (none then t)) e)
-    casts_means k i is = at_tail (Casts i) is
+    pub casts_means : (k : Links) (i : ℕ) → tail_at ts g.structs g.base (tree_rank t) p g.end ≡ Ok (Casts i)
+        → R (climb_in g t p) ≡ and_then (part_at reading page ts kind.TypeName part.TypeName i g.end) (after_by reading page ts job.CastTo (wait (frame job.CastTo (label_of t).from g k) p (none then t)) g.end)
+    casts_means k i is = at_tail (Ok (Casts i)) is
 
   -- one step of a tuple's items behind a comma at p, by whether the closer is reached
-  abbrev pub items_by : Links → Bool → Bool → ℕ → ℕ → Trees → ℕ → ℕ → ℕ → Outcome
-  items_by k closed f b from us p c e =
-      cond closed (R (climb f b (branch (label kind.Tuple 0 from (c + 1)) us) (c + 1) e))
-      (and_then (R (expr true 0 (p + 1) c)) (after_by reading page ts job.Item (wait (frame job.Item from b e f k) p us) c))
+  abbrev pub items_by : Links → Bool → Scope → ℕ → Trees → ℕ → ℕ → Outcome
+  items_by k closed g from us p c =
+      cond closed (R (climb_in g (branch (label kind.Tuple 0 from (c + 1)) us) (c + 1)))
+      (and_then (R (expr true 0 (p + 1) c)) (after_by reading page ts job.Item (wait (frame job.Item from g k) p us) c))
 
-  pub items_means : (k : Links) (f : Bool) (b from : ℕ) (us : Trees) (p c e : ℕ) → p < c → c < e
-      → R (items f b from us (p + 1) c e) ≡ items_by k (eqb (p + 1) c) f b from us p c e
-  items_means k f b from us p c e low high =
-      let q = items f b from us (p + 1) c e in
+  pub items_means : (k : Links) (g : Scope) (from : ℕ) (us : Trees) (p c : ℕ) → p < c → c < g.end
+      → R (items g.structs g.base from us (p + 1) c g.end) ≡ items_by k (eqb (p + 1) c) g from us p c
+  items_means k g from us p c low high =
+      let q = items g.structs g.base from us (p + 1) c g.end in
       RIs q
-      ∙ ap (λ (o : Outcome). cond (eqb (p + 1) c) o (and_then (under q (expr true 0 (p + 1) c)) (after_by reading page ts job.Item (wait (frame job.Item from b e f k) p us) c)))
-      (RAsks q (climb f b (branch (label kind.Tuple 0 from (c + 1)) us) (c + 1) e) (omega arith))
-      ∙ ap (λ (o : Outcome). cond (eqb (p + 1) c) (R (climb f b (branch (label kind.Tuple 0 from (c + 1)) us) (c + 1) e)) o)
-      (first q (expr true 0 (p + 1) c) (after_by reading page ts job.Item (wait (frame job.Item from b e f k) p us) c) (omega arith))
+      ∙ ap (λ (o : Outcome). cond (eqb (p + 1) c) o (and_then (under q (expr true 0 (p + 1) c)) (after_by reading page ts job.Item (wait (frame job.Item from g k) p us) c)))
+      (RAsks q (climb_in g (branch (label kind.Tuple 0 from (c + 1)) us) (c + 1)) (omega arith))
+      ∙ ap (λ (o : Outcome). cond (eqb (p + 1) c) (R (climb_in g (branch (label kind.Tuple 0 from (c + 1)) us) (c + 1))) o)
+      (first q (expr true 0 (p + 1) c) (after_by reading page ts job.Item (wait (frame job.Item from g k) p us) c) (omega arith))

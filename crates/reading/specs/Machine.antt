@@ -1,5 +1,7 @@
 -- What the frames and the spot of the loop stand for. Assumes nothing.
-use Rattle.std.specs.Prelude.{◌≡◌, ℕ, ◌+◌, ◌-◌, ◌*◌, ◌<◌, ◌≤◌, cond, List, [], ◌∷◌, ◌++◌, length, Some, None, Option, Result, nat_lt, slice_index_or, slice_set}
+use Rattle.std.specs.Prelude.{◌≡◌, ℕ, ◌+◌, ◌-◌, ◌*◌, ◌<◌, ◌≤◌, cond, List, [], ◌∷◌, ◌++◌, length, Some, None, Ok, Err, Option, Result, nat_lt, slice_index_or, slice_set}
+use Rattle.lists.specs.Lists.{used, room, Lent}
+use Rattle.lists.specs.declared.Counted.{Counted}
 use Rattle.refusals.specs.declared.Part.{Part}
 use Rattle.refusals.specs.declared.Part.TheVariants as part
 use Rattle.refusals.specs.declared.Denial.{Denial}
@@ -20,14 +22,12 @@ use Rattle.reading.specs.declared.frames.Left.{Left}
 use Rattle.reading.specs.declared.frames.Left.TheVariants.{Nothing, TypeWanted, Operand, Whole}
 use Rattle.reading.specs.declared.frames.Spot.{Spot}
 use Rattle.reading.specs.declared.frames.Move.{Move}
-use Rattle.reading.specs.declared.frames.Move.TheVariants.{Push, Emit, Ended, Refuse}
-use Rattle.reading.specs.declared.frames.Turn.{Turn}
-use Rattle.reading.specs.declared.frames.Turn.TheVariants.{Go, Done, Back}
+use Rattle.reading.specs.declared.frames.Move.TheVariants.{Push, Emit, Ended}
 
 -- links
 
 abbrev pub with_next : Node → ℕ → Node
-with_next n r = node n.label n.first (Some r)
+with_next n r = record n { next = Some r }
 
 abbrev pub no_node : Node
 no_node = node (record { kind = kind.Path; op = 0; from = 0; to = 0 }) None None
@@ -105,27 +105,27 @@ module _ (reading : Part → List Field → Result ℕ Denial) (page : List ℕ)
   -- what a frame makes of a tree t that ended at q, in a level that ends at e
   abbrev pub after_by : Job → Wait → ℕ → Tree → ℕ → Outcome
   after_by (job.Operand k o) w e t q =
-      go_on reading page ts (again w.at w.frame.end) w.frame.structs w.frame.base (label k o w.frame.from q) (w.held then t) w.frame.end
+      go_on reading page ts (again w.at w.frame.scope.end) w.frame.scope.structs w.frame.scope.base (label k o w.frame.from q) (w.held then t) w.frame.scope.end
   after_by job.First w e t q =
-      after_item reading page ts (again w.at w.frame.end) kind.Paren w.frame.structs w.frame.base w.frame.from (w.held then t) q e w.frame.end
+      after_item reading page ts (again w.at w.frame.scope.end) kind.Paren w.frame.scope.structs w.frame.scope.base w.frame.from (w.held then t) q e w.frame.scope.end
   after_by job.Item w e t q =
-      after_item reading page ts (again (w.at + 1) w.frame.end) kind.Tuple w.frame.structs w.frame.base w.frame.from (w.held then t) q e w.frame.end
+      after_item reading page ts (again (w.at + 1) w.frame.scope.end) kind.Tuple w.frame.scope.structs w.frame.scope.base w.frame.from (w.held then t) q e w.frame.scope.end
   after_by (job.Right o) w e t q =
-      go_on reading page ts (again w.at w.frame.end) w.frame.structs w.frame.base (label (kind_of o) (op_of o) w.frame.from q) (w.held then t) w.frame.end
+      go_on reading page ts (again w.at w.frame.scope.end) w.frame.scope.structs w.frame.scope.base (label (kind_of o) (op_of o) w.frame.from q) (w.held then t) w.frame.scope.end
   after_by job.CastTo w e t q =
       cond (cast_followed ts q e) (refused (refusal.CastFollowed q))
-      (go_on reading page ts (again w.at w.frame.end) w.frame.structs w.frame.base (label kind.Cast 0 w.frame.from q) (w.held then t) w.frame.end)
+      (go_on reading page ts (again w.at w.frame.scope.end) w.frame.scope.structs w.frame.scope.base (label kind.Cast 0 w.frame.from q) (w.held then t) w.frame.scope.end)
 
   -- what the frames make of an outcome of the level that ends at e
   abbrev pub resume : List Wait → ℕ → Outcome → Outcome
   resume [] e o = o
-  resume (w ∷ ws) e o = resume ws w.frame.end (and_then o (after_by w.frame.job w e))
+  resume (w ∷ ws) e o = resume ws w.frame.scope.end (and_then o (after_by w.frame.job w e))
 
   -- what is still to be read at a spot, where t stands left of it
   abbrev pub ahead_by : Left → Spot → Tree → Outcome
-  ahead_by Nothing s t = read_task reading page ts (expr s.structs s.base s.place s.end)
-  ahead_by TypeWanted s t = part_at reading page ts kind.TypeName part.TypeName s.place s.end
-  ahead_by (Operand f k r) s t = read_task reading page ts (climb s.structs s.base t s.place s.end)
+  ahead_by Nothing s t = read_task reading page ts (expr s.scope.structs s.scope.base s.place s.scope.end)
+  ahead_by TypeWanted s t = part_at reading page ts kind.TypeName part.TypeName s.place s.scope.end
+  ahead_by (Operand f k r) s t = read_task reading page ts (climb s.scope.structs s.scope.base t s.place s.scope.end)
   ahead_by (Whole r) s t = took t s.place
 
   -- the level of the whole ends at top; what is read is all
@@ -133,7 +133,7 @@ module _ (reading : Part → List Field → Result ℕ Denial) (page : List ℕ)
     -- levels lie in one another, and frames began before the place
     abbrev pub Stack : List Wait → ℕ → ℕ → Type 0
     Stack [] p e = e ≤ top
-    Stack (w ∷ ws) p e = (w.at < p) × (e + shut_of w.frame.job ≤ w.frame.end) × Stack ws w.at w.frame.end
+    Stack (w ∷ ws) p e = (w.at < p) × (e + shut_of w.frame.job ≤ w.frame.scope.end) × Stack ws w.at w.frame.scope.end
 
     -- the loop's invariant: S was in the output at the start, N is now, F are the frames
     pub record Sound (S N : List Node) (F : List Frame) (s : Spot) : Type 0 where
@@ -143,11 +143,11 @@ module _ (reading : Part → List Field → Result ℕ Denial) (page : List ℕ)
       pub nodes : N ≡ S ++ (spilled (length S) waits ++ nodes_by (length S + length (spilled (length S) waits)) s.left tree)
       pub links : Linked (length S) waits
       pub fit : FitBy (length S + length (spilled (length S) waits)) s.left tree
-      pub stack : Stack waits s.place s.end
-      pub inside : s.place ≤ s.end
+      pub stack : Stack waits s.place s.scope.end
+      pub inside : s.place ≤ s.scope.end
       -- each frame and each node has a token of its own
       pub room : length N + length F ≤ length S + s.place
-      pub means : resume waits s.end (ahead_by s.left s tree) ≡ all
+      pub means : resume waits s.scope.end (ahead_by s.left s tree) ≡ all
 
     abbrev pub to_go : List Frame → Spot → ℕ
     to_go F s = 2 * (top - s.place) + length F
@@ -168,10 +168,10 @@ module _ (reading : Part → List Field → Result ℕ Denial) (page : List ℕ)
       pub nodes : N' ≡ S ++ more
 
     -- what a turn of the loop keeps
-    abbrev pub Kept : List Node → List Frame → Spot → List Node → List Frame → Turn → Type 0
-    Kept S F s N' F' (Go next) = Going S F s N' F' next
-    Kept S F s N' F' Done = Over S N' s.place
-    Kept S F s N' F' (Back r) = Turned S N' r
+    abbrev pub Kept : List Node → List Frame → Spot → List Node → List Frame → Result (Option Spot) Refusal → Type 0
+    Kept S F s N' F' (Ok (Some next)) = Going S F s N' F' next
+    Kept S F s N' F' (Ok None) = Over S N' s.place
+    Kept S F s N' F' (Err r) = Turned S N' r
 
   -- what a turn starts from, with room for what it may push
   pub record Ready (top : ℕ) (N : List Node) (F : List Frame) (s : Spot) (frame_room node_room : ℕ) : Type 0 where
@@ -182,18 +182,24 @@ module _ (reading : Part → List Field → Result ℕ Denial) (page : List ℕ)
     pub for_nodes : length start + top ≤ node_room
 
 -- the room that a move wants
-abbrev pub RoomFor : Move → ℕ → ℕ → ℕ → ℕ → Type 0
-RoomFor (Push f next) fs frame_room ns node_room = fs < frame_room
-RoomFor (Emit n next) fs frame_room ns node_room = ns < node_room
-RoomFor (Ended x) fs frame_room ns node_room = Unit {0}
-RoomFor (Refuse r) fs frame_room ns node_room = Unit {0}
+abbrev pub RoomFor : Result Move Refusal → ℕ → ℕ → ℕ → ℕ → Type 0
+RoomFor (Ok (Push f next)) fs frame_room ns node_room = fs < frame_room
+RoomFor (Ok (Emit n next)) fs frame_room ns node_room = ns < node_room
+RoomFor (Ok (Ended x)) fs frame_room ns node_room = Unit {0}
+RoomFor (Err r) fs frame_room ns node_room = Unit {0}
 
 -- what a move does to the frames and the output
-abbrev pub Applied : Move → List Frame → List Frame → List Node → List Node → Turn → Type 0
-Applied (Push f next) F F' N N' r = (r ≡ Go next) × (F' ≡ F ++ f ∷ []) × (N' ≡ N)
-Applied (Emit n next) F F' N N' r = (r ≡ Go next) × (F' ≡ F) × (N' ≡ N ++ n ∷ [])
-Applied (Ended x) F F' N N' r = (r ≡ Done) × (F' ≡ F) × (N' ≡ N)
-Applied (Refuse x) F F' N N' r = (r ≡ Back x) × (F' ≡ F) × (N' ≡ N)
+abbrev pub Applied : Result Move Refusal → List Frame → List Frame → List Node → List Node → Result (Option Spot) Refusal → Type 0
+Applied (Ok (Push f next)) F F' N N' r = (r ≡ Ok (Some next)) × (F' ≡ F ++ f ∷ []) × (N' ≡ N)
+Applied (Ok (Emit n next)) F F' N N' r = (r ≡ Ok (Some next)) × (F' ≡ F) × (N' ≡ N ++ n ∷ [])
+Applied (Ok (Ended x)) F F' N N' r = (r ≡ Ok None) × (F' ≡ F) × (N' ≡ N)
+Applied (Err x) F F' N N' r = (r ≡ Err x) × (F' ≡ F) × (N' ≡ N)
+
+-- a list that fits its space: that of a list before, lent by the same lenders
+pub record StillIn {T : Type 0} (l m : Counted T) : Type 0 where
+  pub within : used m ≤ room m
+  pub size : room m ≡ room l
+  pub lent : Lent l m
 
 -- what a reading does to the output N: the nodes of its tree behind it, at most one for each token that was read, or, where
 -- it is refused, anything behind it

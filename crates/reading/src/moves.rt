@@ -1,15 +1,15 @@
 // What is to be done at a spot, and what a finished node does to the frame that waited for it. Pure decisions.
-ghost use Rattle.std.specs.Prelude.{◌≡◌, ℕ, ◌+◌, ◌-◌, ◌<◌, ◌≤◌};
+ghost use Rattle.std.specs.Prelude.{◌≡◌, ◌+◌, ◌^◌, ◌<◌, ◌≤◌, Ok};
 ghost use Rattle.tokens.specs.Looks.{level_of};
 ghost use Rattle.grammar.specs.Grammar.{rank_by};
-ghost use Rattle.reading.specs.Moves.{made_of, finished_of, begin_of, go_of, type_of, decide_of, shut_of, next_item_of, item_of, close_of, relinked_of};
+ghost use Rattle.reading.specs.Moves.{group_scope, made_of, finished_of, begin_of, go_of, type_of, decide_of, shut_of, next_item_of, item_of, close_of};
 
-use super::frames::{Frame, Job, Left, Links, Move, Spot};
+use super::frames::{Frame, Job, Left, Links, Move, Scope, Spot};
 use grammar::heads::see_head;
 use grammar::tails::{cast_followed, comma, kind_of, op_of, see_tail};
 use grammar::{Head, Tail};
 use hosts::Host;
-use operators::{Infix, above, rank};
+use operators::{Infix, above, rank, rank_of_code};
 use refusals::{Denial, Part, Refusal};
 use tokens::window::Window;
 use trees::{Kind, Label, Node};
@@ -19,319 +19,272 @@ fn rank_by(kind: Kind, op: u32) -> u8
     ensures { result ≡ rank_by kind op }
 {
     match kind {
-        Kind::Binary => {
-            if op < 256 {
-                return rank(Infix::Binary(op as u8));
-            }
-            0
-        }
-        Kind::Assign => 1,
-        Kind::Range => 2,
-        Kind::Cast => 12,
+        Kind::Binary => rank_of_code(op),
+        Kind::Assign => rank(Infix::Assign),
+        Kind::Range => rank(Infix::Range(false)),
+        Kind::Cast => rank(Infix::Cast),
         _ => 0,
     }
 }
 
-// The one maker of nodes: the node with the number `count` is written, and stands as an operand.
-fn made(
-    label: Label,
-    first: Option<usize>,
-    base: u8,
-    end: usize,
-    structs: bool,
-    count: usize,
-) -> Move
-    ensures { result ≡ made_of count label first base end structs }
+// In a parenthesis, up to its closer.
+fn group_scope(close: usize) -> Scope
+    ensures { result ≡ group_scope close }
 {
-    let rank = rank_by(label.kind, label.op);
-    Move::Emit(
-        Node {
-            label,
-            first,
-            next: None,
-        },
-        Spot {
-            place: label.to,
-            end,
-            base,
-            structs,
-            left: Left::Operand(label.from, rank, count),
-        },
-    )
+    Scope {
+        end: close,
+        base: 0,
+        structs: true,
+    }
 }
 
-// The node that a frame waited to write.
-fn finished(f: Frame, kind: Kind, op: u32, to: usize, count: usize) -> Move
-    ensures { result ≡ finished_of count f kind op to }
-{
-    made(
-        Label {
+// Where the loop stands: all tokens, the spot among them, and the number of the node that comes next.
+#[derive(Clone, Copy)]
+pub struct Here<'p, 't> {
+    pub all: Window<'p, 't>,
+    pub at: Spot,
+    pub count: usize,
+    ghost within: { at.scope.end ≤ all.end },
+}
+
+impl<'p, 't> Here<'p, 't> {
+    // The tokens from the spot up to the end of its level.
+    fn level(self) -> Window<'p, 't>
+        ensures page { result.page.now ≡ self.entry.all.page.now }
+        ensures tokens { result.tokens.now ≡ self.entry.all.tokens.now }
+        ensures place { result.place ≡ self.entry.at.place }
+        ensures end { result.end ≡ self.entry.at.scope.end }
+        ensures fits { result.end < 2 ^ 64 }
+    {
+        self.all.level(self.at.place, self.at.scope.end)
+    }
+
+    // The one maker of nodes: the node that comes next is written, and stands as an operand.
+    fn made(self, label: Label, first: Option<usize>, scope: Scope) -> Move
+        ensures { result ≡ made_of self.entry.count label first scope }
+    {
+        let rank = rank_by(label.kind, label.op);
+        Move::Emit(
+            Node {
+                label,
+                first,
+                next: None,
+            },
+            Spot {
+                place: label.to,
+                scope,
+                left: Left::Operand {
+                    from: label.from,
+                    rank,
+                    root: self.count,
+                },
+            },
+        )
+    }
+
+    // The node that a frame waited to write.
+    fn finished(self, f: Frame, kind: Kind, op: u32, to: usize) -> Move
+        ensures { result ≡ finished_of self.entry.count f kind op to }
+    {
+        let label = Label {
             kind,
             op,
             from: f.from,
             to,
-        },
-        f.links.first,
-        f.base,
-        f.end,
-        f.structs,
-        count,
-    )
-}
-
-// An operand begins.
-fn begin(at: Spot, count: usize, head: Head) -> Move
-    ensures { result ≡ begin_of count at head }
-{
-    let links = Links {
-        first: None,
-        last: None,
-    };
-    match head {
-        Head::Leaf(kind, to) => made(
-            Label {
-                kind,
-                op: 0,
-                from: at.place,
-                to,
-            },
-            None,
-            at.base,
-            at.end,
-            at.structs,
-            count,
-        ),
-        Head::Prefix(kind, op, place, base) => Move::Push(
-            Frame {
-                job: Job::Operand(kind, op),
-                from: at.place,
-                base: at.base,
-                end: at.end,
-                structs: at.structs,
-                links,
-            },
-            Spot {
-                place,
-                end: at.end,
-                base,
-                structs: at.structs,
-                left: Left::Nothing,
-            },
-        ),
-        Head::Group(place, close) => Move::Push(
-            Frame {
-                job: Job::First,
-                from: at.place,
-                base: at.base,
-                end: at.end,
-                structs: at.structs,
-                links,
-            },
-            Spot {
-                place,
-                end: close,
-                base: 0,
-                structs: true,
-                left: Left::Nothing,
-            },
-        ),
-        Head::NoHead(r) => Move::Refuse(r),
+        };
+        self.made(label, f.links.first, f.scope)
     }
-}
 
-// An operand stands, with its root, and what follows it decides.
-fn go_on(at: Spot, from: usize, root: usize, count: usize, tail: Tail) -> Move
-    ensures { result ≡ go_of count at from root tail }
-{
-    let links = Links {
-        first: Some(root),
-        last: Some(root),
-    };
-    match tail {
-        Tail::Takes(op, place) => Move::Push(
-            Frame {
-                job: Job::Right(op),
-                from,
-                base: at.base,
-                end: at.end,
-                structs: at.structs,
-                links,
-            },
-            Spot {
-                place,
-                end: at.end,
-                base: above(rank(op)),
-                structs: at.structs,
-                left: Left::Nothing,
-            },
-        ),
-        Tail::Endless(to) => {
-            made(
-                Label {
+    // An operand begins.
+    fn begin(self, head: Head) -> Move
+        ensures { Ok result ≡ begin_of self.entry.count self.entry.at (Ok head) }
+    {
+        let Spot { place, scope, .. } = self.at;
+        let waiting = Frame {
+            from: place,
+            scope,
+            ..Frame::default()
+        };
+        match head {
+            Head::Leaf(kind, to) => {
+                let label = Label {
+                    kind,
+                    op: 0,
+                    from: place,
+                    to,
+                };
+                self.made(label, None, scope)
+            }
+            Head::Prefix {
+                kind,
+                op,
+                operand_at,
+                least_rank,
+            } => {
+                let job = Job::Operand(kind, op);
+                let under = Scope {
+                    base: least_rank,
+                    ..scope
+                };
+                Move::Push(Frame { job, ..waiting }, Spot::new(operand_at, under))
+            }
+            Head::Group {
+                inside_at,
+                closer_at,
+            } => {
+                let job = Job::First;
+                Move::Push(
+                    Frame { job, ..waiting },
+                    Spot::new(inside_at, group_scope(closer_at)),
+                )
+            }
+        }
+    }
+
+    // An operand stands, with its root, and what follows it decides.
+    fn go_on(self, from: usize, root: usize, tail: Tail) -> Move
+        ensures { Ok result ≡ go_of self.entry.count self.entry.at from root (Ok tail) }
+    {
+        let scope = self.at.scope;
+        let links = Links {
+            first: Some(root),
+            last: Some(root),
+        };
+        let waiting = Frame {
+            job: Job::CastTo,
+            from,
+            scope,
+            links,
+        };
+        match tail {
+            Tail::Takes(op, place) => {
+                let job = Job::Right(op);
+                let under = Scope {
+                    base: above(rank(op)),
+                    ..scope
+                };
+                Move::Push(Frame { job, ..waiting }, Spot::new(place, under))
+            }
+            Tail::Endless(to) => {
+                let label = Label {
                     kind: Kind::Range,
                     op: 0,
                     from,
                     to,
-                },
-                Some(root),
-                at.base,
-                at.end,
-                at.structs,
-                count,
-            )
+                };
+                self.made(label, Some(root), scope)
+            }
+            Tail::Casts(place) => {
+                let under = Scope { base: 0, ..scope };
+                let left = Left::TypeWanted;
+                Move::Push(
+                    waiting,
+                    Spot {
+                        place,
+                        scope: under,
+                        left,
+                    },
+                )
+            }
+            Tail::Stop => Move::Ended(root),
         }
-        Tail::Casts(place) => Move::Push(
-            Frame {
-                job: Job::CastTo,
-                from,
-                base: at.base,
-                end: at.end,
-                structs: at.structs,
-                links,
+    }
+
+    // A type, which the host reads.
+    fn read_type<H: Host>(self, host: &H) -> Result<Move, Refusal>
+        ensures { result ≡ type_of self.entry.count self.entry.at (H.reading host.now Part.TypeName (level_of self.entry.all.page.now self.entry.all.tokens.now self.entry.at.place self.entry.at.scope.end)) }
+    {
+        let from = self.at.place;
+        let tokens = host.read(Part::TypeName, self.level()).map_err(|denial| Refusal::HostRefused(
+            from,
+            Part::TypeName,
+            denial,
+        ))?;
+        let to = from + tokens;
+        let label = Label {
+            kind: Kind::TypeName,
+            op: 0,
+            from,
+            to,
+        };
+        Ok(Move::Emit(
+            Node {
+                label,
+                ..Node::default()
             },
             Spot {
-                place,
-                end: at.end,
-                base: 0,
-                structs: at.structs,
-                left: Left::TypeWanted,
+                place: to,
+                left: Left::Whole(self.count),
+                ..self.at
             },
-        ),
-        Tail::Stop => Move::Ended(root),
-        Tail::NoTail(r) => Move::Refuse(r),
+        ))
     }
-}
 
-// A type, which the host reads.
-fn read_type<H: Host>(host: &H, level: Window, at: Spot, count: usize) -> Move
-    requires place { level.place ≡ at.place }
-    requires end { level.end ≡ at.end }
-    ensures { result ≡ type_of count at (H.reading host.now Part.TypeName (level_of level.entry.page.now level.entry.tokens.now at.place at.end)) }
-{
-    match host.read(Part::TypeName, level) {
-        Ok(n) => {
-            let to = at.place + n;
-            Move::Emit(
-                Node {
-                    label: Label {
-                        kind: Kind::TypeName,
-                        op: 0,
-                        from: at.place,
-                        to,
-                    },
-                    first: None,
-                    next: None,
-                },
-                Spot {
-                    place: to,
-                    end: at.end,
-                    base: at.base,
-                    structs: at.structs,
-                    left: Left::Whole(count),
-                },
-            )
-        }
-        Err(denial) => Move::Refuse(Refusal::HostRefused(at.place, Part::TypeName, denial)),
-    }
-}
-
-// What is to be done at a spot, where the next node gets the number `count`.
-pub fn decide<H: Host>(host: &H, all: Window, at: Spot, count: usize) -> Move
-    requires { at.end ≤ all.end }
-    ensures { result ≡ decide_of (H.reading host.now) all.entry.page.now all.entry.tokens.now count at }
-{
-    let level = all.level(at.place, at.end);
-    match at.left {
-        Left::Nothing => begin(at, count, see_head(host, level, at.structs)),
-        Left::TypeWanted => read_type(host, level, at, count),
-        Left::Operand(from, rank, root) => go_on(
-            at,
-            from,
-            root,
-            count,
-            see_tail(level, at.structs, at.base, rank),
-        ),
-        Left::Whole(root) => Move::Ended(root),
-    }
-}
-
-// Behind a comma at a place: the closer, or a further item.
-fn next_item(f: Frame, place: usize, close: usize, count: usize) -> Move
-    requires before { place < close }
-    requires shut { close < f.end }
-    ensures { result ≡ next_item_of count f place close }
-{
-    if place + 1 == close {
-        return finished(f, Kind::Tuple, 0, close + 1, count);
-    }
-    Move::Push(
-        Frame {
-            job: Job::Item,
-            from: f.from,
-            base: f.base,
-            end: f.end,
-            structs: f.structs,
-            links: f.links,
-        },
-        Spot {
-            place: place + 1,
-            end: close,
-            base: 0,
-            structs: true,
-            left: Left::Nothing,
-        },
-    )
-}
-
-// Behind an item: the closer, which makes a node of this kind, or a comma.
-fn item(level: Window, f: Frame, kind: Kind, at: Spot, count: usize) -> Move
-    requires place { level.place ≡ at.place }
-    requires end { level.end ≡ at.end }
-    requires inside { at.place ≤ at.end }
-    requires shut { at.end < f.end }
-    ensures { result ≡ item_of level.entry.tokens.now count kind f at }
-{
-    if at.place == at.end {
-        return finished(f, kind, 0, at.end + 1, count);
-    }
-    if comma(level) {
-        return next_item(f, at.place, at.end, count);
-    }
-    Move::Refuse(Refusal::MarkExpected(at.place))
-}
-
-// What the end of a node does to the frame that waited for it.
-pub fn close(all: Window, f: Frame, at: Spot, count: usize) -> Move
-    requires level { at.end ≤ all.end }
-    requires inside { at.place ≤ at.end }
-    requires shut { at.end + shut_of f.job ≤ f.end }
-    ensures { result ≡ close_of all.entry.tokens.now count f at }
-{
-    let level = all.level(at.place, at.end);
-    match f.job {
-        Job::Operand(kind, op) => finished(f, kind, op, at.place, count),
-        Job::First => item(level, f, Kind::Paren, at, count),
-        Job::Item => item(level, f, Kind::Tuple, at, count),
-        Job::Right(op) => finished(f, kind_of(op), op_of(op), at.place, count),
-        Job::CastTo => {
-            if cast_followed(level) {
-                return Move::Refuse(Refusal::CastFollowed(at.place));
+    // What is to be done here.
+    pub fn decide<H: Host>(self, host: &H) -> Result<Move, Refusal>
+        ensures { result ≡ decide_of (H.reading host.now) self.entry.all.page.now self.entry.all.tokens.now self.entry.count self.entry.at }
+    {
+        let scope = self.at.scope;
+        match self.at.left {
+            Left::Nothing => {
+                let head = see_head(host, self.level(), scope.structs)?;
+                Ok(self.begin(head))
             }
-            finished(f, Kind::Cast, 0, at.place, count)
+            Left::TypeWanted => self.read_type(host),
+            Left::Operand { from, rank, root } => {
+                let tail = see_tail(self.level(), scope.structs, scope.base, rank)?;
+                Ok(self.go_on(from, root, tail))
+            }
+            Left::Whole(root) => Ok(Move::Ended(root)),
         }
     }
-}
 
-// A frame with other links.
-pub fn relinked(f: Frame, links: Links) -> Frame
-    ensures { result ≡ relinked_of f links }
-{
-    Frame {
-        job: f.job,
-        from: f.from,
-        base: f.base,
-        end: f.end,
-        structs: f.structs,
-        links,
+    // Behind a comma: the closer, or a further item.
+    fn next_item(self, f: Frame) -> Move
+        requires before { self.at.place < self.at.scope.end }
+        requires shut { self.at.scope.end < f.scope.end }
+        ensures { result ≡ next_item_of self.entry.count f self.entry.at.place self.entry.at.scope.end }
+    {
+        let next = self.at.place + 1;
+        let close = self.at.scope.end;
+        if next == close {
+            return self.finished(f, Kind::Tuple, 0, close + 1);
+        }
+        let job = Job::Item;
+        Move::Push(Frame { job, ..f }, Spot::new(next, group_scope(close)))
+    }
+
+    // Behind an item: the closer, which makes a node of this kind, or a comma.
+    fn item(self, f: Frame, kind: Kind) -> Result<Move, Refusal>
+        requires inside { self.at.place ≤ self.at.scope.end }
+        requires shut { self.at.scope.end < f.scope.end }
+        ensures { result ≡ item_of self.entry.all.tokens.now self.entry.count kind f self.entry.at }
+    {
+        let end = self.at.scope.end;
+        if self.at.place == end {
+            return Ok(self.finished(f, kind, 0, end + 1));
+        }
+        if comma(self.level()) {
+            return Ok(self.next_item(f));
+        }
+        Err(Refusal::MarkExpected(self.at.place))
+    }
+
+    // What the end of a node does to the frame that waited for it. Its job says what is left to do: jobs stand in lent
+    // frames, where closures would ask for a heap.
+    pub fn close(self, f: Frame) -> Result<Move, Refusal>
+        requires inside { self.at.place ≤ self.at.scope.end }
+        requires shut { self.at.scope.end + shut_of f.job ≤ f.scope.end }
+        ensures { result ≡ close_of self.entry.all.tokens.now self.entry.count f self.entry.at }
+    {
+        let place = self.at.place;
+        match f.job {
+            Job::Operand(kind, op) => Ok(self.finished(f, kind, op, place)),
+            Job::First => self.item(f, Kind::Paren),
+            Job::Item => self.item(f, Kind::Tuple),
+            Job::Right(op) => Ok(self.finished(f, kind_of(op), op_of(op), place)),
+            Job::CastTo if cast_followed(self.level()) => Err(Refusal::CastFollowed(place)),
+            Job::CastTo => Ok(self.finished(f, Kind::Cast, 0, place)),
+        }
     }
 }

@@ -1,5 +1,7 @@
 -- The numbers of refusals and parts, their places, and what a host's refusal carries. Assumes nothing.
-use Rattle.std.specs.Prelude.{ℕ}
+use Rattle.std.specs.Prelude.{ℕ, List, [], ◌∷◌, ◌++◌, Option, Some, None, codes, decimal, flat_map}
+use Rattle.std.specs.Option.{option_map_or}
+use Rattle.refusals.specs.declared.Denial.{Denial}
 use Rattle.refusals.specs.declared.Part.{Part}
 use Rattle.refusals.specs.declared.Part.TheVariants.{Path, TypeName, Pattern, Block, Keyword, Arguments}
 use Rattle.refusals.specs.declared.Refusal.{Refusal}
@@ -55,65 +57,39 @@ place_of (HostRefused at part d) = at
 place_of NotThere = 0
 place_of OutputShort = 0
 
+-- the part that a host refused, and its denial
+abbrev pub denied_of : Refusal → Option (Part × Denial)
+denied_of (CutShort at) = None
+denied_of (BadField at) = None
+denied_of (Unbalanced at) = None
+denied_of (TooManyTokens at) = None
+denied_of SheetFull = None
+denied_of (ExpressionExpected at) = None
+denied_of (MarkExpected at) = None
+denied_of (MemberExpected at) = None
+denied_of (ComparisonChained at) = None
+denied_of (BindingBroken at) = None
+denied_of (CastFollowed at) = None
+denied_of (LeftArrow at) = None
+denied_of (ThreeDots at) = None
+denied_of (LabelColon at) = None
+denied_of (LeftOver at) = None
+denied_of (HostRefused at part d) = Some (part, d)
+denied_of NotThere = None
+denied_of OutputShort = None
+
 -- the number of the host that refused, 0 where none did
 abbrev pub host_of : Refusal → ℕ
-host_of (CutShort at) = 0
-host_of (BadField at) = 0
-host_of (Unbalanced at) = 0
-host_of (TooManyTokens at) = 0
-host_of SheetFull = 0
-host_of (ExpressionExpected at) = 0
-host_of (MarkExpected at) = 0
-host_of (MemberExpected at) = 0
-host_of (ComparisonChained at) = 0
-host_of (BindingBroken at) = 0
-host_of (CastFollowed at) = 0
-host_of (LeftArrow at) = 0
-host_of (ThreeDots at) = 0
-host_of (LabelColon at) = 0
-host_of (LeftOver at) = 0
-host_of (HostRefused at part d) = d.host
-host_of NotThere = 0
-host_of OutputShort = 0
+host_of r = option_map_or (λ d. d.1.host) (denied_of r) 0
 
 -- the part that a host refused, 0 where none did
 abbrev pub part_of : Refusal → ℕ
-part_of (CutShort at) = 0
-part_of (BadField at) = 0
-part_of (Unbalanced at) = 0
-part_of (TooManyTokens at) = 0
-part_of SheetFull = 0
-part_of (ExpressionExpected at) = 0
-part_of (MarkExpected at) = 0
-part_of (MemberExpected at) = 0
-part_of (ComparisonChained at) = 0
-part_of (BindingBroken at) = 0
-part_of (CastFollowed at) = 0
-part_of (LeftArrow at) = 0
-part_of (ThreeDots at) = 0
-part_of (LabelColon at) = 0
-part_of (LeftOver at) = 0
-part_of (HostRefused at part d) = part_number part
-part_of NotThere = 0
-part_of OutputShort = 0
+part_of r = option_map_or (λ d. part_number d.0) (denied_of r) 0
 
 -- the code that the host gave, 0 where none did
 abbrev pub code_of : Refusal → ℕ
-code_of (CutShort at) = 0
-code_of (BadField at) = 0
-code_of (Unbalanced at) = 0
-code_of (TooManyTokens at) = 0
-code_of SheetFull = 0
-code_of (ExpressionExpected at) = 0
-code_of (MarkExpected at) = 0
-code_of (MemberExpected at) = 0
-code_of (ComparisonChained at) = 0
-code_of (BindingBroken at) = 0
-code_of (CastFollowed at) = 0
-code_of (LeftArrow at) = 0
-code_of (ThreeDots at) = 0
-code_of (LabelColon at) = 0
-code_of (LeftOver at) = 0
-code_of (HostRefused at part d) = d.code
-code_of NotThere = 0
-code_of OutputShort = 0
+code_of r = option_map_or (λ d. d.1.code) (denied_of r) 0
+
+-- what is printed of a refusal: its five numbers, each behind a space
+abbrev pub refusal_text : Refusal → List ℕ
+refusal_text r = codes "refused" ++ flat_map (λ n. codes " " ++ decimal n) (number_of r ∷ place_of r ∷ host_of r ∷ part_of r ∷ code_of r ∷ [])

@@ -1,13 +1,16 @@
 // Every way in which a call can be refused, with its number, its place and what a host adds to it.
 #![tactic(auto)]
 
-ghost use Rattle.std.specs.Prelude.{◌≡◌};
-ghost use Rattle.refusals.specs.Refusals.{number_of, place_of, host_of, part_of, code_of, part_number};
+ghost use Rattle.std.specs.Prelude.{◌≡◌, Some};
+ghost use Rattle.refusals.specs.Refusals.{number_of, place_of, denied_of, host_of, part_of, code_of, part_number, refusal_text};
 
-// What a reading asks of a host.
-#[derive(Clone, Copy, PartialEq, Eq)]
+use std::error::Error;
+use std::fmt;
+
+// What a reading asks of a host, with its number.
+#[derive(Clone, Copy, PartialEq, Eq, Debug)]
 pub enum Part {
-    Path,
+    Path = 1,
     TypeName,
     Pattern,
     Block,
@@ -16,30 +19,25 @@ pub enum Part {
 }
 
 impl Part {
+    // Methods answer the numbers, here and below, since `u8::from` would not say which of them.
     pub fn number(self) -> u8
         ensures { result ≡ part_number self }
     {
-        match self {
-            Part::Path => 1,
-            Part::TypeName => 2,
-            Part::Pattern => 3,
-            Part::Block => 4,
-            Part::Keyword => 5,
-            Part::Arguments => 6,
-        }
+        self as u8
     }
 }
 
-// A host's refusal: the number of the host that gave it and a code of its own.
-#[derive(Clone, Copy)]
+// A host's refusal: the number of the host that gave it and a code of its own. Anybody may write a host, so that no enum
+// could have all codes.
+#[derive(Clone, Copy, PartialEq, Eq, Debug)]
 pub struct Denial {
     pub host: u8,
     pub code: u8,
 }
 
 // Places of the first four are bytes of the page, of the others tokens; a full sheet, a thing that is not there and a short
-// output have none, which is 0.
-#[derive(Clone, Copy)]
+// output have none, which is 0, as the line of a refusal has it.
+#[derive(Clone, Copy, PartialEq, Eq, Debug)]
 pub enum Refusal {
     // A field's head or value runs past the page.
     CutShort(usize),
@@ -126,33 +124,50 @@ impl Refusal {
         }
     }
 
-    // The number of the host that refused, and 0 where none did.
+    // What a host refused, and how.
+    fn denied(self) -> Option<(Part, Denial)>
+        ensures { result ≡ denied_of self }
+    {
+        match self {
+            Refusal::HostRefused(_, part, denial) => Some((part, denial)),
+            _ => None,
+        }
+    }
+
+    // The number of the host that refused, and 0 where none did, here and below: so the line of a refusal has it.
     pub fn host(self) -> u8
         ensures { result ≡ host_of self }
     {
-        match self {
-            Refusal::HostRefused(_, _, denial) => denial.host,
-            _ => 0,
-        }
+        self.denied().map_or(0, |(_, denial)| denial.host)
     }
 
     // The number of the part that was refused, or 0.
     pub fn part(self) -> u8
         ensures { result ≡ part_of self }
     {
-        match self {
-            Refusal::HostRefused(_, part, _) => part.number(),
-            _ => 0,
-        }
+        self.denied().map_or(0, |(part, _)| part.number())
     }
 
     // The host's code, or 0.
     pub fn code(self) -> u8
         ensures { result ≡ code_of self }
     {
-        match self {
-            Refusal::HostRefused(_, _, denial) => denial.code,
-            _ => 0,
-        }
+        self.denied().map_or(0, |(_, denial)| denial.code)
     }
 }
+
+// The line of a refusal, without its line feed.
+impl fmt::Display for Refusal {
+    ghost output = { λ r. Some (refusal_text r) };
+
+    fn fmt<W: fmt::Write>(&self, f: &mut fmt::Formatter<W>) -> fmt::Result {
+        let number = self.number();
+        let place = self.place();
+        let host = self.host();
+        let part = self.part();
+        let code = self.code();
+        write!(f, "refused {number} {place} {host} {part} {code}")
+    }
+}
+
+impl Error for Refusal {}

@@ -26,7 +26,7 @@ front N N' more n n' h h' is =
 
 module _ (N N' : List Node) (n n' top : ℕ) (h : n ≤ length N) (h' : n' ≤ length N') where
   pub refused_reads : (o : Outcome) (f : Refusal) (r : Result Rule Refusal) → answer o ≡ Err f → Read o (take n N) (take n' N') → r ≡ Err f → Reads (whole top o) N n N' n' r
-  refused_reads (took t q) f r is w re = let z : ◌≡◌ {A = ℕ} 0 1 = cc in elim (let y : ⊥ = omega arith in y) [ ]
+  refused_reads (took t q) f r is w re = cc
   refused_reads (refused x) f r is w re = let e : r ≡ Err x = cc in (e, front N N' w.more n n' h h' w.nodes)
 
   left_by : (t : Tree) (q : ℕ) (b : Bool) → eqb q top ≡ b → (q ≡ top → ⊥) → take n N' ≡ take n N
@@ -39,7 +39,7 @@ module _ (N N' : List Node) (n n' top : ℕ) (h : n ≤ length N) (h' : n' ≤ l
       let e : p ≡ q = cc in
       subst (λ (x : ℕ). Reads (whole top (took t x)) N n N' n' (Err (LeftOver q))) (sym e)
       (left_by t q (eqb q top) refl ne (front N N' (lay (length (take n N)) None t) n n' h h' w.nodes))
-  left_reads (refused x) q is ne w = let z : ◌≡◌ {A = ℕ} 0 1 = cc in elim (let y : ⊥ = omega arith in y) [ ]
+  left_reads (refused x) q is ne w = cc
 
   -- the count after, and the rule
   counts : (t : Tree) (q : ℕ) → Written (take n N) (take n' N') t q → n' ≡ n + size t
@@ -55,7 +55,7 @@ module _ (N N' : List Node) (n n' top : ℕ) (h : n ≤ length N) (h' : n' ≤ l
 
   pub grown : (o : Outcome) (q : ℕ) → answer o ≡ Ok q → Read o (take n N) (take n' N') → 1 ≤ n'
   grown (took t p) q is w = omega (arith, counts t p w, some_node t)
-  grown (refused x) q is w = let z : ◌≡◌ {A = ℕ} 0 1 = cc in elim (let y : ⊥ = omega arith in y) [ ]
+  grown (refused x) q is w = cc
 
   root_is : (t : Tree) → n' ≡ n + size t → n' - 1 ≡ root_at n t
   root_is (branch l us) e = omega arith
@@ -72,4 +72,4 @@ module _ (N N' : List Node) (n n' top : ℕ) (h : n ≤ length N) (h' : n' ≤ l
         w.nodes ∙ ap (λ (k : ℕ). take n N ++ lay k None t) long,
         b,
       )
-  all_reads (refused x) q is end w = let z : ◌≡◌ {A = ℕ} 0 1 = cc in elim (let y : ⊥ = omega arith in y) [ ]
+  all_reads (refused x) q is end w = cc

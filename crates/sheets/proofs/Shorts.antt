@@ -38,20 +38,20 @@ whole_took n (took t q) e is = go (eqb q n) is
   where
     go : (b : Bool) → cond b (Ok (record { tree = t; used = q })) (Err (LeftOver q)) ≡ Ok e → took t q ≡ took e.tree e.used
     go true h = let z : record { tree = t; used = q } ≡ e = cc in ap (λ (x : Entry). took x.tree x.used) z
-    go false h = let z : ◌≡◌ {A = ℕ} 0 1 = cc in elim (let y : ⊥ = omega arith in y) [ ]
-whole_took n (refused r) e is = let z : ◌≡◌ {A = ℕ} 0 1 = cc in elim (let y : ⊥ = omega arith in y) [ ]
+    go false h = cc
+whole_took n (refused r) e is = cc
 
 fitting_ok : (w : Room) (n r k : ℕ) (o : Result Entry Refusal) (e : Entry) → fitting w n r k o ≡ Ok e → (k ≤ w.nodes - n) × (r < w.rules) × (o ≡ Ok e)
 fitting_ok w n r k o e is = go (leb k (w.nodes - n)) (ltb r w.rules) refl refl is
   where
     go : (a b : Bool) → leb k (w.nodes - n) ≡ a → ltb r w.rules ≡ b → cond a (cond b o (Err SheetFull)) (Err SheetFull) ≡ Ok e → (k ≤ w.nodes - n) × (r < w.rules) × (o ≡ Ok e)
     go true true p q h = (leb-true k (w.nodes - n) p, ltb-true r w.rules q, h)
-    go true false p q h = let z : ◌≡◌ {A = ℕ} 0 1 = cc in elim (let y : ⊥ = omega arith in y) [ ]
-    go false b p q h = let z : ◌≡◌ {A = ℕ} 0 1 = cc in elim (let y : ⊥ = omega arith in y) [ ]
+    go true false p q h = cc
+    go false b p q h = cc
 
 fault_ok : (f : Option Refusal) (o : Result Entry Refusal) (e : Entry) → unless_fault f o ≡ Ok e → o ≡ Ok e
 fault_ok None o e is = is
-fault_ok (Some f) o e is = let z : ◌≡◌ {A = ℕ} 0 1 = cc in elim (let y : ⊥ = omega arith in y) [ ]
+fault_ok (Some f) o e is = cc
 
 -- it leaves the room that there is, and its nodes are short
 pub record Taken (w : Room) (n r : ℕ) (e : Entry) : Type 0 where

@@ -1,7 +1,7 @@
 // The calls of a sheet.
-ghost use Rattle.std.specs.Prelude.{◌≡◌, ℕ, ◌+◌, ◌-◌, ◌<◌, ◌≤◌, min, List, [], ◌∷◌, ◌++◌, length};
+ghost use Rattle.std.specs.Prelude.{◌≡◌, ◌-◌, min, [], length};
 ghost use Rattle.lines.specs.Lines.{heading_bytes, written};
-ghost use Rattle.sheets.specs.Model.{Room, entry_of, token_room, space_after, line_of, call_enter, call_totals, call_heading, call_line, says_number, says_totals, says_bytes};
+ghost use Rattle.sheets.specs.Model.{entry_of, token_room, space_after, line_of, call_enter, call_totals, call_heading, call_line, says_number, says_totals, says_bytes};
 ghost use Rattle.sheets.specs.Sheets.{state_of};
 ghost use Rattle.sheets.specs.States.{room_of, nodes_of, Enters, Follows, Holds};
 
@@ -13,7 +13,7 @@ use hosts::Host;
 use lines::{heading_line, node_line};
 use lists::append;
 use pages::read_page;
-use reading::frames::{Frame, Job, Links};
+use reading::frames::Frame;
 use refusals::Refusal;
 use tokens::Token;
 use tokens::window::Window;
@@ -28,11 +28,12 @@ const MOST_RULES: usize = 256;
 fn free(len: usize, most: usize, used: usize) -> usize
     ensures { result ≡ min len most - used }
 {
-    let room = if len < most { len } else { most };
-    if used < room { room - used } else { 0 }
+    len.min(most).saturating_sub(used)
 }
 
 impl<'a, 'b> Sheet<'a, 'b> {
+    // What `enter` does. It stays a function of its own, so that the promise over every model is drawn from the exact one
+    // once, and not anew on each way out.
     fn enter_core<H: Host>(
         &mut self,
         host: &H,
@@ -67,51 +68,23 @@ impl<'a, 'b> Sheet<'a, 'b> {
         Ok(number)
     }
 
-    fn write_heading(&self, out: &mut [u8]) -> Result<usize, Refusal>
-        ensures { (result, out.new) ≡ written (heading_bytes self.now.totals.rules self.now.totals.nodes) out.old }
-    {
-        heading_line(self.totals.rules, self.totals.nodes, out)
-    }
-
-    fn write_line(&self, i: usize, out: &mut [u8]) -> Result<usize, Refusal>
-        ensures { (result, out.new) ≡ line_of (nodes_of (state_of self.now)) i out.old }
-    {
-        if i >= self.totals.nodes {
-            return Err(Refusal::NotThere);
-        }
-        let nodes = &*self.nodes;
-        let label = nodes[i].label;
-        node_line(i, label.kind.number(), label.op, label.from, label.to, out)
-    }
-
     // An empty sheet over a space for nodes and one for rules, of which it uses at most 4,096 and 256.
     pub fn new(nodes: &'a mut [Node], rules: &'b mut [Rule]) -> Sheet<'a, 'b>
         ensures room { room_of (state_of result) ≡ record { nodes = min (length nodes.old) 4096; rules = min (length rules.old) 256 } }
         ensures empty { Holds (state_of result) [] }
         ensures lender { (result.nodes.ghost_name ≡ nodes.entry.ghost_name) × (result.rules.ghost_name ≡ rules.entry.ghost_name) }
     {
-        let links = Links {
-            first: None,
-            last: None,
-        };
-        let frame = Frame {
-            job: Job::First,
-            from: 0,
-            base: 0,
-            end: 0,
-            structs: false,
-            links,
-        };
         Sheet {
             nodes,
             rules,
-            totals: Totals { nodes: 0, rules: 0 },
-            frames: [frame; 4096],
+            totals: Totals::default(),
+            frames: [Frame::default(); 4096],
         }
     }
 
-    // Enters a page as a rule of all its tokens, and answers the rule's number. `structs` tells whether a path before `{` is a
-    // struct. The token space then holds the records of the fields that were taken in, and behind them what it held.
+    // Enters a page as a rule of all its tokens, and answers the rule's number. `structs` tells whether a path before
+    // `{` is a struct. The token space then holds the records of the fields that were taken in, and behind them what it
+    // held.
     pub fn enter<H: Host>(
         &mut self,
         host: &H,
@@ -139,14 +112,20 @@ impl<'a, 'b> Sheet<'a, 'b> {
         ensures value { (result, out.new) ≡ written (heading_bytes self.now.totals.rules self.now.totals.nodes) out.old }
         ensures follows { Follows (state_of self.now) (call_heading out.old) (says_bytes (result, out.new)) (state_of self.now) }
     {
-        self.write_heading(out)
+        heading_line(self.totals.rules, self.totals.nodes, out)
     }
 
-    // Writes a node's number, kind, op, from and to and a line feed at the output's start, and answers how many bytes that are.
+    // Writes a node's number, kind, op, from and to and a line feed at the output's start, and answers how many bytes
+    // that are.
     pub fn line(&self, i: usize, out: &mut [u8]) -> Result<usize, Refusal>
         ensures value { (result, out.new) ≡ line_of (nodes_of (state_of self.now)) i out.old }
         ensures follows { Follows (state_of self.now) (call_line i out.old) (says_bytes (result, out.new)) (state_of self.now) }
     {
-        self.write_line(i, out)
+        if i >= self.totals.nodes {
+            return Err(Refusal::NotThere);
+        }
+        let nodes = &*self.nodes;
+        let label = nodes[i].label;
+        node_line(i, label.kind.number(), label.op, label.from, label.to, out)
     }
 }

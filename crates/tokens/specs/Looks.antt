@@ -12,6 +12,17 @@ no_token = record { look = Name Plain; start = 0; len = 0 }
 abbrev pub look_at : List Token → ℕ → ℕ → Option Look
 look_at ts e i = cond (nat_lt i e) (Some (slice_index_or ts i no_token).look) None
 
+-- the character of a mark, none of anything else
+abbrev pub mark_shown : Look → Option ℕ
+mark_shown (Name w) = None
+mark_shown (Mark c j) = Some c
+mark_shown Integer = None
+mark_shown Float = None
+mark_shown Literal = None
+mark_shown Lifetime = None
+mark_shown (Open d n) = None
+mark_shown (Close d) = None
+
 -- the character of a mark, 0 of anything else
 abbrev pub mark_of : Look → ℕ
 mark_of (Name w) = 0
@@ -33,6 +44,11 @@ joined_of Lifetime = false
 joined_of (Open d n) = false
 joined_of (Close d) = false
 
+-- the character of the mark at i
+abbrev pub mark_in : List Token → ℕ → ℕ → Option ℕ
+mark_in ts e i = cond (nat_lt i e) (mark_shown (slice_index_or ts i no_token).look) None
+
+-- the same, 0 where no mark stands
 abbrev pub mark_at : List Token → ℕ → ℕ → ℕ
 mark_at ts e i = cond (nat_lt i e) (mark_of (slice_index_or ts i no_token).look) 0
 

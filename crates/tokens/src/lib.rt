@@ -1,11 +1,15 @@
 // Tokens of a page, and the window through which a level of them is read.
 #![tactic(auto)]
 
+ghost use Rattle.std.specs.Prelude.{◌≡◌};
+ghost use Rattle.tokens.specs.Looks.{no_token};
+
 pub mod window;
 
 // What a name spells: a keyword that the grammar knows, or none. `raw` is no keyword, but decides `&raw mut`.
-#[derive(Clone, Copy)]
+#[derive(Clone, Copy, PartialEq, Eq)]
 pub enum Word {
+    // Any name that is none of the others. It stands beside `raw` in every test, so that an option would be no shorter.
     Plain,
     Raw,
     True,
@@ -40,7 +44,7 @@ pub enum Word {
     Reserved,
 }
 
-#[derive(Clone, Copy)]
+#[derive(Clone, Copy, PartialEq, Eq)]
 pub enum Delimiter {
     Paren,
     Bracket,
@@ -48,7 +52,7 @@ pub enum Delimiter {
 }
 
 // All that the reading of an expression may know of a token. What a name or a literal spells is for hosts alone.
-#[derive(Clone, Copy)]
+#[derive(Clone, Copy, PartialEq, Eq)]
 pub enum Look {
     Name(Word),
     // A mark's character, and whether it is joined to the next mark.
@@ -62,10 +66,23 @@ pub enum Look {
     Close(Delimiter),
 }
 
-// A token: its look, and where its value stands on the page.
-#[derive(Clone, Copy)]
+// A token: its look, and where its value stands on the page. It borrows no page, since a space for tokens is lent for many.
+#[derive(Clone, Copy, PartialEq, Eq)]
 pub struct Token {
     pub look: Look,
     pub start: usize,
     pub len: usize,
+}
+
+// A plain name, at the start of a page and without a value: what fills a space before a page is read into it.
+impl Default for Token {
+    ghost is_default = { λ t. t ≡ no_token };
+
+    fn default() -> Token {
+        Token {
+            look: Look::Name(Word::Plain),
+            start: 0,
+            len: 0,
+        }
+    }
 }

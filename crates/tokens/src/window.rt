@@ -1,4 +1,5 @@
-// A window over the tokens of a level: it borrows them, and knows its place and its end.
+// A window over the tokens of a level: it borrows them, and knows its place and its end. It is no slice of the level
+// alone, since places are those of the whole page.
 ghost use Rattle.std.specs.Prelude.{◌≤◌, length};
 
 use super::Token;

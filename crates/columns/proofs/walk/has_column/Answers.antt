@@ -1,17 +1,12 @@
-use Rattle.std.proofs.Common.{sym, ◌∙◌}
-use Rattle.columns.proofs.Walks.{begun, ended, found, walked_on}
+use Rattle.std.proofs.Common.{rules}
+use Rattle.std.proofs.lemmas.Iterator.Consumers.{YieldsList-from_first}
+use Rattle.std.proofs.lemmas.Iterator.Search.{any_from_yields_List}
+use Rattle.std.specs.Str.{bytes_eq}
+use borrow.Author.Tests.{tests}
+use Rattle.columns.specs.Columns.{columns_of, names_left}
 use Rattle.columns.proofs.walk.has_column.Goals as goal
 
-pub loop-at-init : goal.loop-at-init
-loop-at-init c = begun c.args.page.now c.args.name.now
-
-pub returns-then-next-at : goal.returns-then-next-at
-returns-then-next-at c = sym (ended _ _ _ c.loop-at.invariant (sym c.if-next-at.true ∙ c.name_end-next.ensures.value))
-
-pub returns-then-same : goal.returns-then-same
-returns-then-same c =
-    sym (found _ _ _ _ c.name_end-next.ensures.value c.if-next-at.false (c.name_end-next.ensures.within c.if-next-at.false) c.loop-at.invariant (sym c.if-same.ensures))
-
-pub loop-at-preserved : goal.loop-at-preserved
-loop-at-preserved c =
-    walked_on _ _ _ _ c.name_end-next.ensures.value c.if-next-at.false (c.name_end-next.ensures.within c.if-next-at.false) c.loop-at.invariant (sym c.if-same.ensures)
+pub returns : goal.returns
+returns c =
+    any_from_yields_List (bytes_eq c.args.name.now) c.any.new.self _ _ c.any.ensures.ran
+    (YieldsList-from_first (λ x. x.now) (λ s. names_left s.page.now s.at) (columns_of c.args.page.now) c.new.ensures) (λ x b q k. search (rules, tests))

@@ -1,14 +1,15 @@
-use Rattle.std.proofs.Common.{sym, ◌∙◌}
+use Rattle.std.proofs.Common.{rules, drop, ap, ◌∙◌}
+use Rattle.std.proofs.lemmas.Iterator.{YieldsList-from_slice}
+use Rattle.std.proofs.lemmas.Iterator.Consumers.{count_from_yields_List}
+use Rattle.std.proofs.lemmas.Iterator.Search.{YieldsList-from_take_while}
 use Rattle.std.proofs.lemmas.List.{take_rest}
-use Rattle.pages.proofs.Bytes.{after_more, after_stops, after_ends}
+use Rattle.std.proofs.lemmas.List.Folds.{length-prefix_len}
+use borrow.Author.Tests.{tests}
+use Rattle.pages.specs.Values.{digit}
+use Rattle.pages.proofs.Bytes.{behind_digits}
 use Rattle.pages.proofs.values.after_digits.Goals as goal
 
-pub returns-then-not-is_digit : goal.returns-then-not-is_digit
-returns-then-not-is_digit c =
-    take_rest c.args.bytes.now c.loop-i.i ∙ sym (c.loop-i.invariant ∙ after_stops _ _ c.loop-i-test.true (sym c.if-not-is_digit.ensures))
-
-pub loop-i-preserved : goal.loop-i-preserved
-loop-i-preserved c = c.loop-i.invariant ∙ after_more _ _ c.loop-i-test.true (sym c.if-not-is_digit.ensures)
-
 pub returns : goal.returns
-returns c = sym (c.loop-i.invariant ∙ after_ends _ _ c.loop-i-test.false)
+returns c =
+    let many = count_from_yields_List _ _ c.count-digits.ensures.ran (YieldsList-from_take_while _ digit (YieldsList-from_slice c.args.bytes.now cc) (cc) (cc) (λ x b q k. search (rules, tests))) in
+    take_rest c.args.bytes.now c.count-digits.result ∙ (ap (λ n. drop n c.args.bytes.now) (many ∙ length-prefix_len digit _) ∙ behind_digits c.args.bytes.now)

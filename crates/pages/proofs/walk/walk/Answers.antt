@@ -1,79 +1,61 @@
-use Rattle.std.proofs.Common.{ℕ, drop, Err, sym, refl, ap, ◌∙◌, arith}
-use Rattle.std.proofs.lemmas.Result.{err_from_is_err_and}
-use Rattle.lists.specs.Lists.{items}
-use Rattle.pages.specs.Pages.{refused, still_open, ended, answer}
-use Rattle.pages.specs.Taken.{held}
-use Rattle.pages.proofs.Sound.{field_is}
-use Rattle.pages.proofs.Walking.{start, more, field_refused, step_refused, finished, still_open_lem, many, answers, holds, accepted, same_items, same_rest}
+use Rattle.std.proofs.Common.{rules, ◌≡◌, ◌<◌, ◌≤◌, ℕ, length, drop, Ok, Err, sym, refl, ap, ◌∙◌}
+use Rattle.pages.specs.Fields.{field_at}
+use Rattle.pages.specs.Pages.{still_open, answer}
+use Rattle.pages.specs.Taken.{items}
+use Rattle.pages.proofs.Walking.{start, more, field_refused, step_refused, finished, many, answers, holds, accepted, same_tokens, same_rest}
 use Rattle.pages.proofs.walk.walk.Goals as goal
 
-pub loop-at-init : goal.loop-at-init
-loop-at-init c = start c.args.page.now c.args.list.now c.requires
+pub loop-field-init : goal.loop-field-init
+loop-field-init c = search (rules, start)
 
-pub returns-in_err-token : goal.returns-in_err-token
-returns-in_err-token c =
-    let w = c.loop-at.invariant in
-    let e = c.in_err-token.field-0.0 in
-    let gives = err_from_is_err_and c.from_residual.result c.from_residual.ensures.1 in
-    let h = refused (held c.loop-at.list c.loop-at.inner) e in
-    let is = field_refused _ _ _ _ _ w e c.loop-at-test.true (sym c.in_err-token.ensures) in
-    record {
-      answer = answers _ c.args.page.now _ h is (gives.1 ∙ ap Err gives.2);
-      records = holds _ c.args.page.now c.args.list.now c.loop-at.list h is refl w.behind w.fits;
-      accepted = accepted _ c.args.page.now _ (answers _ c.args.page.now _ h is (gives.1 ∙ ap Err gives.2));
-      lender = w.lent;
-    }
+pub returns-in_err-at-clause-answer : goal.returns-in_err-at-clause-answer
+returns-in_err-at-clause-answer c =
+    let here : c.loop-field.field-iterator.at < length c.args.page.now = search rules in
+    let is : field_at c.args.page.now c.loop-field.field-iterator.at ≡ Err c.in_err-at.field-0.0 = search rules in
+    answers _ _ _ _ (field_refused _ _ _ _ c.loop-field.invariant.1 _ here is) (search rules)
 
-pub returns-in_err-inner : goal.returns-in_err-inner
-returns-in_err-inner c =
-    let w = c.loop-at.invariant in
-    let l = c.loop-at.list in
-    let m = c.take_in.new.list in
-    let e = c.in_err-inner.field-0.0 in
-    let gives = err_from_is_err_and c.from_residual-in_err-inner.result c.from_residual-in_err-inner.ensures.1 in
-    let h = refused (held l c.loop-at.inner) e in
-    let k = c.in_err-inner.ensures in
-    let same = k.stepped.1 in
-    let is = step_refused _ _ _ _ _ w c.in_ok-token.token e c.loop-at-test.true (sym c.in_ok-token.ensures) k.stepped.0 in
-    record {
-      answer = answers _ c.args.page.now _ h is (gives.1 ∙ ap Err gives.2);
-      records =
-          holds _ c.args.page.now c.args.list.now m h is (same_items l m same)
-          (same_rest l m same ∙ (w.behind ∙ ap (λ (n : ℕ). drop n c.args.list.now.space.now) (sym same.count)))
-          (omega (arith, same.count, k.room, w.fits));
-      accepted = accepted _ c.args.page.now _ (answers _ c.args.page.now _ h is (gives.1 ∙ ap Err gives.2));
-      lender = (k.lender.0 ∙ w.lent.0, k.lender.1 ∙ w.lent.1);
-    }
+pub returns-in_err-at-clause-records : goal.returns-in_err-at-clause-records
+returns-in_err-at-clause-records c =
+    let here : c.loop-field.field-iterator.at < length c.args.page.now = search rules in
+    let is : field_at c.args.page.now c.loop-field.field-iterator.at ≡ Err c.in_err-at.field-0.0 = search rules in
+    let w = c.loop-field.invariant.1 in
+    holds _ _ c.args.taken.now c.loop-field.taken _ (field_refused _ _ _ _ w _ here is) refl w.behind
 
-pub overflow_add-at : goal.overflow_add-at
-overflow_add-at c =
-    let f = field_is c.args.page.now c.loop-at.at c.in_ok-token.token c.loop-at-test.true (sym c.in_ok-token.ensures) in
-    omega arith
+pub loop-field-preserved : goal.loop-field-preserved
+loop-field-preserved c =
+    let here : c.loop-field.field-iterator.at < length c.args.page.now = search rules in
+    let is : field_at c.args.page.now c.loop-field.field-iterator.at ≡ Ok c.in_ok-at.token = search rules in
+    let next = more _ _ _ _ c.loop-field.invariant.1 _ c.take_in.new.self c.in_ok-take_in.field-0 here is (search rules) in
+    search rules
 
-pub loop-at-smaller : goal.loop-at-smaller
-loop-at-smaller c =
-    let f = field_is c.args.page.now c.loop-at.at c.in_ok-token.token c.loop-at-test.true (sym c.in_ok-token.ensures) in
-    omega arith
+pub returns-in_err-take_in-clause-answer : goal.returns-in_err-take_in-clause-answer
+returns-in_err-take_in-clause-answer c =
+    let here : c.loop-field.field-iterator.at < length c.args.page.now = search rules in
+    let is : field_at c.args.page.now c.loop-field.field-iterator.at ≡ Ok c.in_ok-at.token = search rules in
+    answers _ _ _ _ (step_refused _ _ _ _ c.loop-field.invariant.1 _ c.in_err-take_in.field-0.0 here is (search rules)) (search rules)
 
-pub loop-at-preserved : goal.loop-at-preserved
-loop-at-preserved c =
-    let k = c.in_ok-inner.ensures in
-    more _ _ _ _ _ c.loop-at.invariant c.in_ok-token.token c.take_in.new.list c.in_ok-inner.inner
-    c.loop-at-test.true (sym c.in_ok-token.ensures) k.stepped k.room k.lender
+pub returns-in_err-take_in-clause-records : goal.returns-in_err-take_in-clause-records
+returns-in_err-take_in-clause-records c =
+    let here : c.loop-field.field-iterator.at < length c.args.page.now = search rules in
+    let is : field_at c.args.page.now c.loop-field.field-iterator.at ≡ Ok c.in_ok-at.token = search rules in
+    let w = c.loop-field.invariant.1 in
+    let s = c.loop-field.taken in
+    let t = c.take_in.new.self in
+    let k = c.in_err-take_in.ensures in
+    holds _ _ c.args.taken.now t _ (step_refused _ _ _ _ w _ c.in_err-take_in.field-0.0 here is (search rules)) (same_tokens s t k.1 k.2)
+    (same_rest s t k.1 k.2 ∙ (w.behind ∙ ap (λ (n : ℕ). drop n c.args.taken.now.space.now) (sym k.2)))
 
-pub finish-requires : goal.finish-requires
-finish-requires c = record { opened = still_open_lem _ _ _ _ _ c.loop-at.invariant; held = c.loop-at.invariant.fits }
+pub returns-clause-answer : goal.returns-clause-answer
+returns-clause-answer c =
+    let t = c.loop-field.taken in
+    let done : length c.args.page.now ≤ c.loop-field.field-iterator.at = search rules in
+    answers _ _ _ _ (finished _ _ _ _ c.loop-field.invariant.1 done) (c.finish.ensures ∙ ap (answer (still_open (items t) t.inner)) (sym (many t)))
 
-pub returns : goal.returns
-returns c =
-    let w = c.loop-at.invariant in
-    let l = c.loop-at.list in
-    let h = ended (held l c.loop-at.inner) in
-    let is = finished _ _ _ _ _ w c.loop-at-test.false in
-    let value = answers _ c.args.page.now _ h is (c.finish.ensures ∙ ap (answer (still_open (items l) c.loop-at.inner)) (sym (many _ _ _ _ _ w))) in
-    record {
-      answer = value;
-      records = holds _ c.args.page.now c.args.list.now l h is refl w.behind w.fits;
-      accepted = accepted _ c.args.page.now _ value;
-      lender = w.lent;
-    }
+pub returns-clause-records : goal.returns-clause-records
+returns-clause-records c =
+    let done : length c.args.page.now ≤ c.loop-field.field-iterator.at = search rules in
+    let w = c.loop-field.invariant.1 in
+    holds _ _ c.args.taken.now c.loop-field.taken _ (finished _ _ _ _ w done) refl w.behind
+
+pub returns-clause-accepted : goal.returns-clause-accepted
+returns-clause-accepted c = accepted _ _ _ (returns-clause-answer c)

@@ -1,108 +1,68 @@
-use Rattle.std.proofs.Common.{◌≡◌, ℕ, ◌+◌, ◌≤◌, length, sym, refl, ap, ◌∙◌, subst, arith}
-use Rattle.lists.specs.Lists.{items, used, room}
-use Rattle.reading.specs.Moves.{decide_of, close_of, shut_of}
-use Rattle.reading.specs.Machine.{LastIn, RoomFor, Applied}
-use Rattle.reading.specs.declared.frames.Frame.{Frame}
-use Rattle.reading.specs.declared.frames.Move.{Move}
-use Rattle.reading.proofs.Turns.{level, lasts, closes, room_step, room_close, turn_step, turn_close, turn_done}
+use Rattle.std.proofs.Common.{List, Bor, length, sym, refl, ap, ◌∙◌, subst, arith, rules}
+use Rattle.lists.specs.Lists.{items}
+use Rattle.tokens.specs.declared.window.Window.{Window}
+use Rattle.trees.specs.declared.Node.{Node}
+use Rattle.grammar.specs.Grammar.{Outcome}
+use Rattle.reading.specs.Machine.{LastIn}
+use Rattle.reading.proofs.Keeping.{Ground, ground}
+use Rattle.reading.proofs.Asks.{level, lasts, closes, room_step, room_close}
+use Rattle.reading.proofs.Turns.{turn_step, turn_close, turn_done}
 use Rattle.reading.proofs.Rooms.{counted}
+use Rattle.reading.proofs.machine.turn_once.Given as given
 use Rattle.reading.proofs.machine.turn_once.Goals as goal
 
-pub decide-requires : goal.decide-requires
-decide-requires g c = level (g.H.Host.reading c.args.host.now) (g.met.H.Host.lawful c.args.host.now) c.args.all.page.now c.args.all.tokens.now c.args.all.end c.requires.ready.whole c.requires.ready.start _ _ c.args.at c.requires.ready.sound
+abbrev here : (g : given.Over) → Bor g.row.H.Denot → Window → Outcome → List Node → Ground
+here g host all o S = ground (g.H.Host.reading host.now) (g.met.H.Host.lawful host.now) all o S
 
-pub attach-links-requires : goal.attach-links-requires
-attach-links-requires g c =
-    record {
-      last =
-          subst (λ (n : ℕ). LastIn c.in-Some.f.links.last n) (counted c.args.nodes.now c.requires.nodes)
-          (lasts (g.H.Host.reading c.args.host.now) (g.met.H.Host.lawful c.args.host.now) c.args.all.page.now c.args.all.tokens.now c.args.all.end c.requires.ready.whole c.requires.ready.start _ _ _ c.in-Some.f c.args.at c.requires.ready.sound c.in-Some.ensures.cases.0);
-      held = c.requires.nodes;
-    }
+pub invariant_of-decide : goal.invariant_of-decide
+invariant_of-decide g c = record { within = level (here g c.args.host c.args.all c.requires.ready.whole c.requires.ready.start) _ _ c.args.at c.requires.ready.sound }
 
-pub close-requires : goal.close-requires
-close-requires g c =
-    record {
-      level = level (g.H.Host.reading c.args.host.now) (g.met.H.Host.lawful c.args.host.now) c.args.all.page.now c.args.all.tokens.now c.args.all.end c.requires.ready.whole c.requires.ready.start _ _ c.args.at c.requires.ready.sound;
-      inside = c.requires.ready.sound.inside;
-      shut =
-          subst (λ (h : Frame). c.args.at.end + shut_of h.job ≤ h.end) (sym c.relinked.ensures)
-          (closes (g.H.Host.reading c.args.host.now) (g.met.H.Host.lawful c.args.host.now) c.args.all.page.now c.args.all.tokens.now c.args.all.end c.requires.ready.whole c.requires.ready.start _ _ _ c.in-Some.f c.args.at c.requires.ready.sound c.in-Some.ensures.cases.0);
-    }
+pub returns-in_err-step-clause-kept : goal.returns-in_err-step-clause-kept
+returns-in_err-step-clause-kept g c = λ o S x.
+    turn_step (here g c.args.host c.args.all o S) c.count-count.result _ c.args.at c.in_err-step.ensures (λ y z. cc) _ _ _ _ _
+    (c.count-count.ensures ∙ sym (counted c.args.nodes.now c.requires.nodes)) x (search rules, refl, refl)
 
-pub apply-requires : goal.apply-requires
-apply-requires g c =
-    let popped : room c.pop.new.self ≡ room c.args.frames.now = ap length c.in-Some.ensures.space in
-    let fits : used c.pop.new.self ≤ room c.pop.new.self = omega (arith, popped, c.in-Some.ensures.cases.1, c.requires.frames) in
-    let wide : c.args.all.end ≤ room c.pop.new.self = omega (arith, popped, c.requires.ready.for_frames) in
-    let roomy : length c.requires.ready.start + c.args.all.end ≤ room c.attach-links.new.nodes = omega (arith, c.attach-links.ensures.room, c.requires.ready.for_nodes) in
-    let n : ℕ = c.count-in-Some.result in
-    let space : RoomFor (close_of c.args.all.tokens.now n c.relinked.result c.args.at) (length (items c.pop.new.self)) (room c.pop.new.self) (length (items c.args.nodes.now)) (room c.attach-links.new.nodes) =
-    room_close (g.H.Host.reading c.args.host.now) (g.met.H.Host.lawful c.args.host.now) c.args.all.page.now c.args.all.tokens.now c.args.all.end c.requires.ready.whole c.requires.ready.start n _ _ _ c.in-Some.f c.relinked.result c.args.at _ _ c.requires.ready.sound c.in-Some.ensures.cases.0 wide roomy in
-    let move = close_of c.args.all.tokens.now n c.relinked.result c.args.at in
-    record {
-      room =
-          subst (λ (m : Move). RoomFor m (used c.pop.new.self) (room c.pop.new.self) (used c.attach-links.new.nodes) (room c.attach-links.new.nodes)) (sym c.close.ensures)
-          (subst (λ (k : ℕ). RoomFor move (used c.pop.new.self) (room c.pop.new.self) k (room c.attach-links.new.nodes)) (counted c.args.nodes.now c.requires.nodes ∙ sym c.attach-links.ensures.count)
-          (subst (λ (k : ℕ). RoomFor move k (room c.pop.new.self) (length (items c.args.nodes.now)) (room c.attach-links.new.nodes)) (counted c.pop.new.self fits) space));
-      frames = fits;
-      nodes = omega (arith, c.attach-links.ensures.count, c.attach-links.ensures.room, c.requires.nodes);
-    }
+pub apply-requires-clause-room : goal.apply-requires-clause-room
+apply-requires-clause-room g c =
+    room_step (here g c.args.host c.args.all c.requires.ready.whole c.requires.ready.start) c.count-count.result _ _ _ c.args.at _ _ _ _ c.requires.ready.sound c.in_ok-step.ensures
+    (counted c.args.frames.now c.requires.frames) (counted c.args.nodes.now c.requires.nodes) c.requires.ready.for_frames c.requires.ready.for_nodes
 
-pub apply-requires-in_default : goal.apply-requires-in_default
-apply-requires-in_default g c =
-    let n : ℕ = c.count.result in
-    let move = decide_of (g.H.Host.reading c.args.host.now) c.args.all.page.now c.args.all.tokens.now n c.args.at in
-    let space : RoomFor move (length (items c.args.frames.now)) (room c.args.frames.now) (length (items c.args.nodes.now)) (room c.args.nodes.now) =
-    room_step (g.H.Host.reading c.args.host.now) (g.met.H.Host.lawful c.args.host.now) c.args.all.page.now c.args.all.tokens.now c.args.all.end c.requires.ready.whole c.requires.ready.start n _ _ c.args.at _ _ c.requires.ready.sound c.requires.ready.for_frames c.requires.ready.for_nodes in
-    record {
-      room =
-          subst (λ (m : Move). RoomFor m (used c.args.frames.now) (room c.args.frames.now) (used c.args.nodes.now) (room c.args.nodes.now)) (sym c.decide.ensures)
-          (subst (λ (k : ℕ). RoomFor move (used c.args.frames.now) (room c.args.frames.now) k (room c.args.nodes.now)) (counted c.args.nodes.now c.requires.nodes)
-          (subst (λ (k : ℕ). RoomFor move k (room c.args.frames.now) (length (items c.args.nodes.now)) (room c.args.nodes.now)) (counted c.args.frames.now c.requires.frames) space));
-      frames = c.requires.frames;
-      nodes = c.requires.nodes;
-    }
+pub returns-in_default-clause-kept : goal.returns-in_default-clause-kept
+returns-in_default-clause-kept g c = λ o S x.
+    turn_step (here g c.args.host c.args.all o S) c.count-count.result _ c.args.at c.in_ok-step.ensures (λ y z. c.in_default.not-Ended y (cc)) _ _ _ _ _
+    (c.count-count.ensures ∙ sym (counted c.args.nodes.now c.requires.nodes)) x c.apply.ensures.applied
 
-pub returns-in-None : goal.returns-in-None
-returns-in-None g c =
-    record {
-      kept = λ o S x. turn_done (g.H.Host.reading c.args.host.now) (g.met.H.Host.lawful c.args.host.now) c.args.all.page.now c.args.all.tokens.now c.args.all.end o S c.count.result c.args.at c.in-Ended.root (sym c.in-Ended.ensures) _ _ (items c.pop.new.self) x (counted c.args.frames.now c.requires.frames ∙ c.in-None.ensures.cases.0);
-      frames_in = omega (arith, c.in-None.ensures.cases.1);
-      nodes_in = c.requires.nodes;
-      frames_room = ap length c.in-None.ensures.space;
-      nodes_room = refl;
-      frames_lent = c.in-None.ensures.lender;
-      nodes_lent = (refl, refl);
-    }
+pub returns-in_default-pop-clause-kept : goal.returns-in_default-pop-clause-kept
+returns-in_default-pop-clause-kept g c = λ o S x.
+    turn_done (here g c.args.host c.args.all o S) c.count-count.result c.args.at c.in-Ended.root (search rules) _ _ (items c.pop.new.self) x
+    (counted c.args.frames.now c.requires.frames ∙ c.in_default-pop.ensures.cases.0)
 
-pub returns-in-Some : goal.returns-in-Some
-returns-in-Some g c =
-    let held : used c.attach-links.new.nodes ≤ room c.attach-links.new.nodes = omega (arith, c.attach-links.ensures.count, c.attach-links.ensures.room, c.requires.nodes) in
-    record {
-      kept = λ o S x.
-          turn_close (g.H.Host.reading c.args.host.now) (g.met.H.Host.lawful c.args.host.now) c.args.all.page.now c.args.all.tokens.now c.args.all.end o S c.count.result c.count-in-Some.result c.args.at c.in-Ended.root (sym c.in-Ended.ensures) _ (items c.attach-links.new.nodes) _ _ (items c.pop.new.self) _ c.apply.result c.in-Some.f c.attach-links.result x
-          c.in-Some.ensures.cases.0 c.attach-links.ensures.items c.attach-links.ensures.value (c.count-in-Some.ensures ∙ sym (counted c.attach-links.new.nodes held))
-          (subst (λ (h : Frame). Applied (close_of c.args.all.tokens.now c.count-in-Some.result h c.args.at) (items c.pop.new.self) (items c.apply.new.frames) (items c.attach-links.new.nodes) (items c.apply.new.nodes) c.apply.result) c.relinked.ensures
-          (subst (λ (m : Move). Applied m (items c.pop.new.self) (items c.apply.new.frames) (items c.attach-links.new.nodes) (items c.apply.new.nodes) c.apply.result) c.close.ensures c.apply.ensures.applied));
-      frames_in = c.apply.ensures.frames_in;
-      nodes_in = c.apply.ensures.nodes_in;
-      frames_room = c.apply.ensures.frames_room ∙ ap length c.in-Some.ensures.space;
-      nodes_room = c.apply.ensures.nodes_room ∙ c.attach-links.ensures.room;
-      frames_lent = (c.apply.ensures.frames_lent.0 ∙ c.in-Some.ensures.lender.0, c.apply.ensures.frames_lent.1 ∙ c.in-Some.ensures.lender.1);
-      nodes_lent = (c.apply.ensures.nodes_lent.0 ∙ c.attach-links.ensures.lent.0, c.apply.ensures.nodes_lent.1 ∙ c.attach-links.ensures.lent.1);
-    }
+pub attach-links-requires-clause-last : goal.attach-links-requires-clause-last
+attach-links-requires-clause-last g c =
+    subst (LastIn c.in-Some.f.links.last) (counted c.args.nodes.now c.requires.nodes)
+    (lasts (here g c.args.host c.args.all c.requires.ready.whole c.requires.ready.start) _ _ _ c.in-Some.f c.args.at c.requires.ready.sound c.in-Some.ensures.cases.0)
 
-pub returns-in_default : goal.returns-in_default
-returns-in_default g c =
-    record {
-      kept = λ o S x.
-          turn_step (g.H.Host.reading c.args.host.now) (g.met.H.Host.lawful c.args.host.now) c.args.all.page.now c.args.all.tokens.now c.args.all.end o S c.count.result c.args.at (λ y z. c.in_default.not-Ended y (c.decide.ensures ∙ z)) _ _ _ _ c.apply-in_default.result (c.count.ensures ∙ sym (counted c.args.nodes.now c.requires.nodes)) x
-          (subst (λ (m : Move). Applied m (items c.args.frames.now) (items c.apply-in_default.new.frames) (items c.args.nodes.now) (items c.apply-in_default.new.nodes) c.apply-in_default.result) c.decide.ensures c.apply-in_default.ensures.applied);
-      frames_in = c.apply-in_default.ensures.frames_in;
-      nodes_in = c.apply-in_default.ensures.nodes_in;
-      frames_room = c.apply-in_default.ensures.frames_room;
-      nodes_room = c.apply-in_default.ensures.nodes_room;
-      frames_lent = c.apply-in_default.ensures.frames_lent;
-      nodes_lent = c.apply-in_default.ensures.nodes_lent;
-    }
+pub invariant_of-close : goal.invariant_of-close
+invariant_of-close g c = record { within = level (here g c.args.host c.args.all c.requires.ready.whole c.requires.ready.start) _ _ c.args.at c.requires.ready.sound }
+
+pub close-requires-clause-shut : goal.close-requires-clause-shut
+close-requires-clause-shut g c = closes (here g c.args.host c.args.all c.requires.ready.whole c.requires.ready.start) _ _ _ c.in-Some.f c.args.at c.requires.ready.sound c.in-Some.ensures.cases.0
+
+pub returns-in_err-next-clause-kept : goal.returns-in_err-next-clause-kept
+returns-in_err-next-clause-kept g c = λ o S x.
+    turn_close (here g c.args.host c.args.all o S) c.count-count.result c.count-count-2.result _ c.args.at c.in-Ended.root (search rules) _ _ _ _ _ _ _ c.in-Some.f c.attach-links.result
+    c.in_err-next.ensures x c.in-Some.ensures.cases.0 c.attach-links.ensures.items c.attach-links.ensures.value
+    (c.count-count-2.ensures ∙ sym (counted c.attach-links.new.nodes c.attach-links.ensures.nodes.within)) (search rules, refl, refl)
+
+pub apply-requires-2-clause-room : goal.apply-requires-2-clause-room
+apply-requires-2-clause-room g c =
+    let size = ap length c.in-Some.ensures.space in
+    room_close (here g c.args.host c.args.all c.requires.ready.whole c.requires.ready.start) c.count-count-2.result _ _ _ _ c.in-Some.f _ c.args.at _ _ _ _ c.requires.ready.sound c.in-Some.ensures.cases.0 c.in_ok-next.ensures
+    (counted c.args.frames.now c.requires.frames ∙ sym c.in-Some.ensures.cases.1) (counted c.args.nodes.now c.requires.nodes ∙ sym c.attach-links.ensures.count)
+    (omega (arith, c.requires.ready.for_frames, size)) (omega (arith, c.requires.ready.for_nodes, c.attach-links.ensures.nodes.size))
+
+pub returns-clause-kept : goal.returns-clause-kept
+returns-clause-kept g c = λ o S x.
+    turn_close (here g c.args.host c.args.all o S) c.count-count.result c.count-count-2.result _ c.args.at c.in-Ended.root (search rules) _ _ _ _ _ _ _ c.in-Some.f c.attach-links.result
+    c.in_ok-next.ensures x c.in-Some.ensures.cases.0 c.attach-links.ensures.items c.attach-links.ensures.value
+    (c.count-count-2.ensures ∙ sym (counted c.attach-links.new.nodes c.attach-links.ensures.nodes.within)) c.apply-2.ensures.applied

@@ -1,26 +1,25 @@
-use Rattle.std.proofs.Common.{◌≡◌, ℕ, ◌+◌, ◌-◌, List, sym, ap, ◌∙◌, subst, arith}
+use Rattle.std.proofs.Common.{◌≡◌, ℕ, List, sym, ap, ◌∙◌, subst, ok_or, arith}
+use Rattle.std.proofs.lemmas.Bool.Decides.{nat_tests}
 use Rattle.refusals.specs.declared.Part.{Part}
 use Rattle.tokens.specs.declared.Token.{Token}
 use Rattle.tokens.specs.Looks.{level_of}
-use Rattle.hosts.specs.Lawful.{looks}
 use Rattle.hosts.specs.Runs.{LongestRun}
-use Rattle.hosts.specs.Statements.{looks_from, length_of, answer, statement_reading}
+use Rattle.hosts.specs.Statements.{looks_from, length_of, found, answer, statement_reading}
 use Rattle.hosts.specs.Levels.{looks_level}
 use Rattle.hosts.specs.Longest.{longest_run}
 use Rattle.hosts.proofs.statement.StatementHostHost.read.Goals as goal
 
--- a length that is read at the place of the window is that of the level's fields
-place_read : (part : Part) (page : List ℕ) (ts : List Token) (p e at next : ℕ) → at ≡ p → next ≡ at + length_of part (looks_from ts at e)
-    → next - at ≡ length_of part (looks (level_of page ts p e))
-place_read part page ts p e at next a n =
-    let same : length_of part (looks_from ts at e) ≡ length_of part (looks (level_of page ts p e)) =
-    ap (λ q. length_of part (looks_from ts q e)) a ∙ ap (length_of part) (sym (looks_level page ts p e)) in
-    let len : next - at ≡ length_of part (looks_from ts at e) = omega (arith, n) in
-    len ∙ same
+answered : (n : ℕ) → ok_or (found n) (record { host = 2; code = 3 }) ≡ answer n
+answered n = grind (arith, nat_tests)
+
+level_read : (part : Part) (page : List ℕ) (ts : List Token) (p e : ℕ)
+    → statement_reading part (level_of page ts p e) ≡ ok_or (found (length_of part (looks_from ts p e))) (record { host = 2; code = 3 })
+unfolding statement_reading
+level_read part page ts p e = ap (λ l. answer (length_of part l)) (looks_level page ts p e) ∙ sym (answered _)
 
 pub returns : goal.returns
-unfolding statement_reading
 returns c =
-    let len = place_read c.args.part c.args.level.page.now c.args.level.tokens.now _ _ _ _ c.place-at.ensures c.run_from.ensures in
-    let is = c.answered.ensures ∙ ap answer len in
+    let read = level_read c.args.part c.args.level.page.now c.args.level.tokens.now c.args.level.place c.args.level.end in
+    let is : c.ok_or.result ≡ statement_reading c.args.part (level_of c.args.level.page.now c.args.level.tokens.now c.args.level.place c.args.level.end) =
+    grind (arith, read) in
     record { value = is; longest = subst (LongestRun c.args.part _) (sym is) (longest_run c.args.part _) }

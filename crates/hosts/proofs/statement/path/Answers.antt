@@ -1,0 +1,15 @@
+use Rattle.std.proofs.Common.{◌∙◌, sym, ap, arith}
+use Rattle.hosts.specs.Statements.{segments_length, found}
+use Rattle.hosts.proofs.Windows.{ahead, behind_some, behind_none}
+use Rattle.hosts.proofs.statement.path.Goals as goal
+
+pub returns-in_err-segments-clause-value : goal.returns-in_err-segments-clause-value
+returns-in_err-segments-clause-value c =
+    let rest = ahead c.args.w.place 2 c.after.ensures (omega arith) in
+    c.from_residual.ensures
+    ∙ simp (sym c.if-colons.ensures.value) (behind_none 2 _ (c.in_err-segments.ensures.value ∙ ap (λ l. found (segments_length l)) rest))
+
+pub returns-in_ok-segments-clause-value : goal.returns-in_ok-segments-clause-value
+returns-in_ok-segments-clause-value c =
+    let rest = ahead c.args.w.place 2 c.after.ensures (omega arith) in
+    simp (sym c.if-colons.ensures.value) (behind_some 2 _ _ (c.in_ok-segments.ensures.value ∙ ap (λ l. found (segments_length l)) rest))

@@ -1,3 +1,0 @@
-pub mod Puts
-pub mod Digits
-pub mod Spaced
