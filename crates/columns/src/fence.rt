@@ -58,7 +58,7 @@ impl Parts {
     }
 }
 
-// A host, and the parts that it may be asked for.
+// A host, and the parts that it may be asked for. The others are denied with the fence's one code, 5.
 #[derive(Clone, Copy)]
 pub struct Fence<H> {
     inner: H,

@@ -55,7 +55,7 @@ impl<'a> Host for NameHost<'a> {
     }
 }
 
-// The code with which a part is denied.
+// The code with which a part is denied: 1 for a path, 2 for all else.
 fn code_for(part: Part) -> u8
     ensures { result ≡ code_for part }
 {

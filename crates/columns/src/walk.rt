@@ -8,8 +8,8 @@ ghost use Rattle.columns.specs.Walk.{holds_name, name_end};
 
 use pages::is_name;
 
-// Whether a field with this tag and length is a name, over the bytes behind its head. No more is read of a field than that:
-// which word a name spells is not asked, and 1 is the tag of names.
+// Whether a field with this tag and length is a name, over the bytes behind its head. No more is read of a field than
+// that: which word a name spells, as pages ask, is not asked for each column, and 1 is the tag of names.
 fn holds_name(tag: u8, len: usize, rest: &[u8]) -> bool
     ensures value { result ≡ holds_name tag len rest.now }
     ensures within { result ≡ true → (1 ≤ len) × (len ≤ length rest.now) }
@@ -34,7 +34,7 @@ fn name_end(page: &[u8], at: usize) -> Option<usize>
     }
 }
 
-// The names on a page of columns, from a byte of it on.
+// The names on a page of columns, from a byte of it on. It gives names alone, and reads no more of a field than that.
 #[derive(Drop)]
 struct Columns<'p> {
     page: &'p [u8],

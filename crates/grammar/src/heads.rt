@@ -147,14 +147,15 @@ impl<'p, 't> Front<'p, 't> {
     }
 }
 
-// What stands at the window's place, where an operand is to begin.
+// What stands at the window's place, where an operand is to begin. Level and flag are two parameters, as callers have
+// them.
 pub fn see_head<H: Host>(host: &H, level: Window, structs: bool) -> Result<Head, Refusal>
     ensures { result ≡ head_at (H.reading host.now) level.entry.page.now level.entry.tokens.now structs level.entry.place level.entry.end }
 {
     let place = level.place();
-    let Some(look) = level.look(place) else {
-        return Err(Refusal::ExpressionExpected(level.end()));
-    };
+    let look = level
+        .look(place)
+        .ok_or(Refusal::ExpressionExpected(level.end()))?;
     let front = Front { level, structs };
     match look {
         Look::Name(word) => front.name(host, word),

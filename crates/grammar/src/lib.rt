@@ -1,4 +1,5 @@
-// The grammar of rules: what an operand begins with, and what may follow one. The definition of reading stands in specs/.
+// The grammar of rules: what an operand begins with, and what may follow one. The definition of reading stands in
+// specs/.
 #![tactic(auto)]
 
 pub mod heads;

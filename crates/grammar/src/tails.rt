@@ -105,7 +105,8 @@ pub fn cast_followed(level: Window) -> bool
     }
 }
 
-// The kind of the node that an operator makes.
+// The kind of the node that an operator makes. A function, here and below, since `From` would not say what of the node
+// it is.
 pub fn kind_of(op: Infix) -> Kind
     ensures { result ≡ kind_of op }
 {

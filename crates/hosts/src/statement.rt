@@ -11,6 +11,7 @@ use tokens::window::Window;
 use tokens::{Delimiter, Look, Word};
 
 // Its types are paths behind `&` marks, its patterns single tokens and paths with a group, its blocks groups in braces.
+// It denies whatever it denies with its one code, 3.
 #[derive(Clone, Copy)]
 pub struct StatementHost;
 
@@ -74,8 +75,8 @@ fn look_role(look: Look) -> Option<Role>
 }
 
 // Each function of a window below asks what stands at its front, that is, from its place on. One that answers yes or
-// no says of a yes that it stands before the end; one that answers a length, that it keeps within the window. No type holds
-// a length and its bound, since it would be taken apart wherever a length is added to.
+// no says of a yes that it stands before the end; one that answers a length, that it keeps within the window. No type
+// holds a length and its bound, since it would be taken apart wherever a length is added to.
 
 // Whether the first token has a role.
 fn has_role(w: Window, role: Role) -> bool

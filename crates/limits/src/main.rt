@@ -1,6 +1,6 @@
 // Answers cases from standard input, one on a line: what an empty sheet makes of a page, or which bytes a token has.
-// A case is `NODES RULES TOKENS PAGE`, with the sizes of the spaces that are lent, or `text PLACE PAGE`. A line that begins
-// with `#` is a heading, which is its own answer. A line that is neither ends the program with an error.
+// A case is `NODES RULES TOKENS PAGE`, with the sizes of the spaces that are lent, or `text PLACE PAGE`. A line that
+// begins with `#` is a heading, which is its own answer. A line that is neither ends the program with an error.
 #![tactic(auto)]
 
 use answers::{show_refusal, show_sheet, show_text};

@@ -9,7 +9,8 @@ use refusals::Refusal;
 use std::marker::Model;
 
 // A line under way. No line has more bytes than it holds, so that nothing is allocated. It is no `fmt::Write`: the
-// contract of `write!` leaves open that it fails, and these lines may not.
+// contract of `write!` leaves open that it fails, and these lines may not. So a refusal's text is put together here
+// once more.
 #[derive(Drop)]
 struct Line {
     bytes: [u8; 64],
@@ -99,8 +100,8 @@ pub fn heading_line(rules: usize, nodes: usize, out: &mut [u8]) -> Result<usize,
     line.write(out)
 }
 
-// Writes a node with the token places from which and to which it reaches, and answers the length of the line. The kind is
-// given by its number: a kind itself would take no 0, which this call takes.
+// Writes a node with the token places from which and to which it reaches, and answers the length of the line. The kind
+// is given by its number: a kind itself would take no 0, which this call takes.
 pub fn node_line(
     number: usize,
     kind: u8,

@@ -12,6 +12,8 @@ pub struct Counted<'a, 'c, T> {
 }
 
 impl<'a, 'c, T: Copy> Counted<'a, 'c, T> {
+    // A list over this space, with so many records in use. That the lenders stay the same is said of each call, since no
+    // invariant can name the list before it.
     pub fn new(space: &'a mut [T], count: &'c mut usize) -> Counted<'a, 'c, T>
         ensures holds { result.space.now ≡ space.old }
         ensures counts { result.count.now ≡ count.old }
@@ -51,8 +53,8 @@ impl<'a, 'c, T: Copy> Counted<'a, 'c, T> {
         Ok(at)
     }
 
-    // Takes the last record off. A list can be made over any count, so that what reads records asks that it is within the
-    // space; an invariant would ask it of `new`.
+    // Takes the last record off. A list can be made over any count, so that what reads records asks that it is within
+    // the space; an invariant would ask it of `new`.
     pub fn pop(&mut self) -> Option<T>
         requires { used self.old ≤ room self.old }
         ensures cases { MatchOption result ((used self.old ≡ 0) × (used self.new ≡ 0)) (λ x. (items self.old ≡ items self.new ++ x ∷ []) × (used self.new + 1 ≡ used self.old)) }

@@ -49,7 +49,7 @@ pub enum BinaryOp {
 }
 
 impl BinaryOp {
-    // The number by which the operator is known in a node.
+    // The number by which the operator is known in a node. A method, since `u8::from` would not say so.
     pub fn code(self) -> u8
         ensures value { result ≡ code_of self }
         ensures within { (1 ≤ result) × (result ≤ 28) }
@@ -78,7 +78,7 @@ pub enum Sign {
     LeftArrow,
 }
 
-// The ranks of the binary operators, by their codes from 1.
+// The ranks of the binary operators, by their codes from 1: a table, so that one rule is proved over all its rows.
 const RANKS: [u8; 28] = [
     10, // +
     10, // -
@@ -117,7 +117,8 @@ fn ranks() -> [u8; 28]
     RANKS
 }
 
-// The rank of the binary operator with a code, and 0 for a code that none has.
+// The rank of the binary operator with a code, and 0 for a code that none has: a rank below all others, as that of a
+// node that is not infix.
 #[tactic(auto, using(crate::proofs::Table::ranked_at, crate::proofs::Table::rank_within))]
 pub fn rank_of_code(code: u32) -> u8
     ensures value { result ≡ rank_of_code code }
@@ -135,7 +136,7 @@ pub fn rank(op: Infix) -> u8
     ensures within { result ≤ 12 }
 {
     match op {
-        Infix::Binary(op) => rank_of_code(op.code() as u32),
+        Infix::Binary(op) => rank_of_code(u32::from(op.code())),
         Infix::Assign => 1,
         Infix::Range(_) => 2,
         Infix::Cast => 12,
@@ -150,8 +151,8 @@ pub fn above(rank: u8) -> u8
     if rank == 1 { 1 } else { rank + 1 }
 }
 
-// Whether a left operand of a rank (0: no infix operator) may stand under an operator of the rank `parent`. Ranks are plain
-// numbers, as the binding rule's table has them, and 0 lies below every one of them.
+// Whether a left operand of a rank (0: no infix operator) may stand under an operator of the rank `parent`. Ranks are
+// plain numbers, as the binding rule's table has them, and 0 lies below every one of them.
 pub fn left_keeps(left: u8, parent: u8) -> bool
     ensures { result ≡ left_keeps left parent }
 {
@@ -161,8 +162,8 @@ pub fn left_keeps(left: u8, parent: u8) -> bool
     }
 }
 
-// What stands at a place. The place is named beside the level, here and below, since `next` and `range_ends` are asked for
-// places further on than the level's own.
+// What stands at a place. The place is a parameter, here and below, as the definitions have it, which speak of places
+// further on too; and public calls keep their parameters.
 #[tactic(auto, unfolding(crate::specs::Signs::sign_at))]
 pub fn sign_at(level: Window, i: usize) -> Option<Sign>
     ensures value { result ≡ sign_at level.entry.tokens.now level.entry.end i }
@@ -251,8 +252,8 @@ fn binary(op: BinaryOp, tokens: usize) -> Option<Sign>
     Some(Sign::Operator(Infix::Binary(op), tokens))
 }
 
-// Whether a half-open range `..` has no end because of what stands at a place. Where `structs` is false, a `{` group is no
-// part of the range.
+// Whether a half-open range `..` has no end because of what stands at a place. Where `structs` is false, a `{` group is
+// no part of the range.
 #[tactic(auto, unfolding(crate::specs::Ranges::range_ends))]
 pub fn range_ends(level: Window, i: usize, structs: bool) -> bool
     ensures { result ≡ range_ends level.entry.tokens.now level.entry.end i structs }

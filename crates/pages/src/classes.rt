@@ -1,4 +1,4 @@
-// The class of a byte, by a table over all 256 of them.
+// The class of a byte, by a table over all 256 of them, so that one rule is proved over all its rows.
 ghost use Rattle.std.specs.Prelude.{◌≡◌};
 ghost use Rattle.pages.specs.Classes.{class_of};
 
@@ -273,7 +273,7 @@ const CLASSES: [Class; 256] = [
     Class::Other,
 ];
 
-// The class of a byte.
+// The class of a byte. A function, since `Class::from` would not say that the table is asked.
 pub fn class_of(b: u8) -> Class
     ensures { result ≡ class_of b }
 {

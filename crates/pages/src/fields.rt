@@ -74,7 +74,7 @@ fn mark_look(bytes: &[u8]) -> Option<Look>
     }
 }
 
-// The kind of a delimiter, of an opener or a closer.
+// The kind of a delimiter, of an opener or a closer. A function, since it answers for bytes that are neither.
 fn delimiter_of(b: u8) -> Delimiter
     ensures { result ≡ delimiter_of b }
 {
@@ -85,7 +85,7 @@ fn delimiter_of(b: u8) -> Delimiter
     }
 }
 
-// How many tokens the group has is not known before its closer.
+// How many tokens the group has is not known before its closer: the look has a number for it, and that is 0 until then.
 fn open_look(bytes: &[u8]) -> Option<Look>
     ensures { result ≡ open_look bytes.now }
 {

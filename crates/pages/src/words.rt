@@ -1,4 +1,5 @@
-// The word that a name spells. Names are compared with the spellings of about their own length alone.
+// The word that a name spells. Names are compared with the spellings of about their own length alone; for one match
+// over all of them the proof did not close.
 ghost use Rattle.std.specs.Prelude.{◌≡◌};
 ghost use Rattle.pages.specs.Words.{word_of, spelled, spellings, within};
 

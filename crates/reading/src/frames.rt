@@ -7,7 +7,7 @@ use trees::{Kind, Node};
 // What an unfinished node waits for. Each line shows a rule that needs it.
 #[derive(Clone, Copy, Default)]
 pub enum Job {
-    // - x: the operand of a node of this kind and op
+    // - x: the operand of a node of this kind and op, which are a label's as soon as its end is known
     Operand(Kind, u32),
     // ( x ): the first thing in a parenthesis
     #[default]
@@ -51,7 +51,7 @@ pub enum Left {
     Nothing,
     // `as`: a type is to begin.
     TypeWanted,
-    // An operand, by its start, its rank and the number of its root.
+    // An operand, by its start, its rank (0: not infix) and the number of its root.
     Operand { from: usize, rank: u8, root: usize },
     // Something that takes no operator, by the number of its root.
     Whole(usize),

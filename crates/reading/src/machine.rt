@@ -112,6 +112,7 @@ pub fn read_expr<H: Host>(
 {
     let mut depth = 0;
     let mut frames = Counted::new(stack, &mut depth);
+    // Written out, and not by `Spot::new`: so the proof of the loop computes with it.
     let mut at = Spot {
         place: level.place(),
         scope: Scope {

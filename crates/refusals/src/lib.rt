@@ -35,8 +35,8 @@ pub struct Denial {
     pub code: u8,
 }
 
-// Places of the first four are bytes of the page, of the others tokens; a full sheet, a thing that is not there and a short
-// output have none, which is 0, as the line of a refusal has it.
+// Places of the first four are bytes of the page, of the others tokens; a full sheet, a thing that is not there and a
+// short output have none, which is 0, as the line of a refusal has it.
 #[derive(Clone, Copy, PartialEq, Eq, Debug)]
 pub enum Refusal {
     // A field's head or value runs past the page.

@@ -11,7 +11,8 @@ use trees::Node;
 
 const MOST_BYTES: u64 = 65536;
 
-// Prints the heading and a line for each node. One that is refused is left out: with 32 bytes none is.
+// Prints the heading and a line for each node. One that is refused is left out: with 32 bytes none
+// is, so that an error would be no plainer.
 fn show_sheet(rt: &HostRuntime, sheet: &Sheet) -> io::Result<()> {
     let mut out = [0; 32];
     if let Ok(n) = sheet.heading(&mut out) {

@@ -32,8 +32,8 @@ fn free(len: usize, most: usize, used: usize) -> usize
 }
 
 impl<'a, 'b> Sheet<'a, 'b> {
-    // What `enter` does. It stays a function of its own, so that the promise over every model is drawn from the exact one
-    // once, and not anew on each way out.
+    // What `enter` does. It stays a function of its own, so that the promise over every model is drawn from the exact
+    // one once, and not anew on each way out.
     fn enter_core<H: Host>(
         &mut self,
         host: &H,
@@ -121,6 +121,7 @@ impl<'a, 'b> Sheet<'a, 'b> {
         ensures value { (result, out.new) ≡ line_of (nodes_of (state_of self.now)) i out.old }
         ensures follows { Follows (state_of self.now) (call_line i out.old) (says_bytes (result, out.new)) (state_of self.now) }
     {
+        // The totals bound it, and not the space, as `get` would.
         if i >= self.totals.nodes {
             return Err(Refusal::NotThere);
         }

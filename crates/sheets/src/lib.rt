@@ -13,9 +13,8 @@ mod entering;
 mod guard;
 pub mod records;
 
-// The rules and their nodes, how many of each are in use, and the frames of the readings, which are made once. Nothing here
-// allocates.
-// Every sheet stands for some list of trees.
+// The rules and their nodes, how many of each are in use, and the frames of the readings, which are made once. Nothing
+// here allocates. Every sheet stands for some list of trees.
 #[derive(Drop)]
 pub struct Sheet<'a, 'b> {
     nodes: &'a mut [Node],

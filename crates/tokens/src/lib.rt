@@ -66,7 +66,8 @@ pub enum Look {
     Close(Delimiter),
 }
 
-// A token: its look, and where its value stands on the page. It borrows no page, since a space for tokens is lent for many.
+// A token: its look, and where its value stands on the page. It borrows no page, since a space for tokens is lent for
+// many.
 #[derive(Clone, Copy, PartialEq, Eq)]
 pub struct Token {
     pub look: Look,

@@ -1,5 +1,6 @@
 // A window over the tokens of a level: it borrows them, and knows its place and its end. It is no slice of the level
-// alone, since places are those of the whole page.
+// alone, since places are those of the whole page, and contracts take its parts one by one, since definitions ask of
+// other places and ends too.
 ghost use Rattle.std.specs.Prelude.{◌≤◌, length};
 
 use super::Token;
