@@ -2,6 +2,8 @@
 #![tactic(auto)]
 
 use hosts::statement::StatementHost;
+use lines::refusal_line;
+use refusals::Refusal;
 use sheets::Sheet;
 use sheets::records::Rule;
 use std::io;
@@ -27,6 +29,14 @@ fn show_sheet(rt: &HostRuntime, sheet: &Sheet) -> io::Result<()> {
     Ok(())
 }
 
+// Prints a refusal by its line, which cannot fail. `println!` of it would rest on `fmt`, of which no clause says when it
+// fails.
+fn show_refusal(rt: &HostRuntime, refusal: Refusal) -> io::Result<()> {
+    let mut out = [0; 64];
+    let n = refusal_line(refusal, &mut out);
+    show(rt, &out, n)
+}
+
 // Prints the first bytes of an output.
 fn show(rt: &HostRuntime, out: &[u8], n: usize) -> io::Result<()> {
     rt.stdout().write_all(out.get(..n).unwrap_or_default())
@@ -40,8 +50,7 @@ fn main(rt: HostRuntime) -> io::Result<()> {
     let mut rules = [Rule::default(); 256];
     let mut sheet = Sheet::new(&mut nodes, &mut rules);
     match sheet.enter(&StatementHost, page.as_slice(), &mut tokens, true) {
-        Ok(_) => show_sheet(&rt, &sheet)?,
-        Err(refusal) => println!(rt; "{refusal}")?,
+        Ok(_) => show_sheet(&rt, &sheet),
+        Err(refusal) => show_refusal(&rt, refusal),
     }
-    Ok(())
 }
