@@ -66,6 +66,7 @@ pub struct Spot {
 
 impl Spot {
     // A spot where an operand is to begin.
+    #[inline(always)]
     pub fn new(place: usize, scope: Scope) -> Spot
         ensures { result ≡ record { place = place; scope = scope; left = Left.Nothing } }
     {

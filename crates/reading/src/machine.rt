@@ -1,4 +1,4 @@
-// The loop: decides, pushes frames and writes nodes, turn by turn.
+// The loop: decides, pushes frames and writes nodes, turn by turn. The hints are those of `moves`.
 ghost use Rattle.std.specs.Prelude.{◌≡◌, ◌+◌, ◌≤◌, List, length, Ok};
 ghost use Rattle.lists.specs.Lists.{items, used, room, Lent};
 ghost use Rattle.trees.specs.declared.Node.{Node};
@@ -16,6 +16,7 @@ use trees::Node;
 // Does what was decided, a plain value: a frame or a node more, for which there is room. Frames and nodes stay two
 // parameters, here and below, since what a struct of both wrote behind its `&mut` to the nodes would not be known once
 // it ends.
+#[inline(always)]
 fn apply(step: Move, frames: &mut Counted<Frame>, nodes: &mut Counted<Node>) -> Option<Spot>
     requires room { RoomFor (Ok step) (used frames.old) (room frames.old) (used nodes.old) (room nodes.old) }
     requires frames { used frames.old ≤ room frames.old }
@@ -38,6 +39,7 @@ fn apply(step: Move, frames: &mut Counted<Frame>, nodes: &mut Counted<Node>) -> 
 }
 
 // The node at `root` becomes the last child of a frame with these links, and the sibling of the last one so far.
+#[inline(always)]
 fn attach(links: Links, root: usize, nodes: &mut Counted<Node>) -> Links
     requires last { LastIn links.last (used nodes.old) }
     requires nodes { used nodes.old ≤ room nodes.old }
@@ -64,6 +66,7 @@ fn attach(links: Links, root: usize, nodes: &mut Counted<Node>) -> Links
 
 // One turn: what is decided is done, and a node that has ended is handed to the frame that waited for it. Answers the
 // next spot, or that the whole has ended.
+#[inline(always)]
 fn turn_once<H: Host>(
     host: &H,
     all: Window,

@@ -1,4 +1,5 @@
-// What is to be done at a spot, and what a finished node does to the frame that waited for it. Pure decisions.
+// What is to be done at a spot, and what a finished node does to the frame that waited for it. Pure decisions. The hints
+// make one function of a turn in the program: a spot, a frame or a move that is handed on by value is not copied then.
 ghost use Rattle.std.specs.Prelude.{◌≡◌, ◌+◌, ◌^◌, ◌<◌, ◌≤◌, Ok};
 ghost use Rattle.tokens.specs.Looks.{level_of};
 ghost use Rattle.grammar.specs.Grammar.{rank_by};
@@ -15,6 +16,7 @@ use tokens::window::Window;
 use trees::{Kind, Label, Node};
 
 // The rank of a node by its kind and op: 0 of one that is not infix.
+#[inline(always)]
 fn rank_by(kind: Kind, op: u32) -> u8
     ensures { result ≡ rank_by kind op }
 {
@@ -28,6 +30,7 @@ fn rank_by(kind: Kind, op: u32) -> u8
 }
 
 // In a parenthesis, up to its closer.
+#[inline(always)]
 fn group_scope(close: usize) -> Scope
     ensures { result ≡ group_scope close }
 {
@@ -49,6 +52,7 @@ pub struct Here<'p, 't> {
 
 impl<'p, 't> Here<'p, 't> {
     // The tokens from the spot up to the end of its level.
+    #[inline(always)]
     fn level(self) -> Window<'p, 't>
         ensures page { result.page.now ≡ self.entry.all.page.now }
         ensures tokens { result.tokens.now ≡ self.entry.all.tokens.now }
@@ -60,6 +64,7 @@ impl<'p, 't> Here<'p, 't> {
     }
 
     // The one maker of nodes: the node that comes next is written, and stands as an operand.
+    #[inline(always)]
     fn made(self, label: Label, first: Option<usize>, scope: Scope) -> Move
         ensures { result ≡ made_of self.entry.count label first scope }
     {
@@ -83,6 +88,7 @@ impl<'p, 't> Here<'p, 't> {
     }
 
     // The node that a frame waited to write.
+    #[inline(always)]
     fn finished(self, f: Frame, kind: Kind, op: u32, to: usize) -> Move
         ensures { result ≡ finished_of self.entry.count f kind op to }
     {
@@ -96,6 +102,7 @@ impl<'p, 't> Here<'p, 't> {
     }
 
     // An operand begins.
+    #[inline(always)]
     fn begin(self, head: Head) -> Move
         ensures { Ok result ≡ begin_of self.entry.count self.entry.at (Ok head) }
     {
@@ -142,6 +149,7 @@ impl<'p, 't> Here<'p, 't> {
     }
 
     // An operand stands, with its root, and what follows it decides.
+    #[inline(always)]
     fn go_on(self, from: usize, root: usize, tail: Tail) -> Move
         ensures { Ok result ≡ go_of self.entry.count self.entry.at from root (Ok tail) }
     {
@@ -221,6 +229,7 @@ impl<'p, 't> Here<'p, 't> {
     }
 
     // What is to be done here.
+    #[inline(always)]
     pub fn decide<H: Host>(self, host: &H) -> Result<Move, Refusal>
         ensures { result ≡ decide_of (H.reading host.now) self.entry.all.page.now self.entry.all.tokens.now self.entry.count self.entry.at }
     {
@@ -240,6 +249,7 @@ impl<'p, 't> Here<'p, 't> {
     }
 
     // Behind a comma: the closer, or a further item.
+    #[inline(always)]
     fn next_item(self, f: Frame) -> Move
         requires before { self.at.place < self.at.scope.end }
         requires shut { self.at.scope.end < f.scope.end }
@@ -255,6 +265,7 @@ impl<'p, 't> Here<'p, 't> {
     }
 
     // Behind an item: the closer, which makes a node of this kind, or a comma.
+    #[inline(always)]
     fn item(self, f: Frame, kind: Kind) -> Result<Move, Refusal>
         requires inside { self.at.place ≤ self.at.scope.end }
         requires shut { self.at.scope.end < f.scope.end }
@@ -272,6 +283,7 @@ impl<'p, 't> Here<'p, 't> {
 
     // What the end of a node does to the frame that waited for it. Its job says what is left to do: jobs stand in lent
     // frames, where closures would ask for a heap.
+    #[inline(always)]
     pub fn close(self, f: Frame) -> Result<Move, Refusal>
         requires inside { self.at.place ≤ self.at.scope.end }
         requires shut { self.at.scope.end + shut_of f.job ≤ f.scope.end }
