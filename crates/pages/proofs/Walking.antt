@@ -1,8 +1,9 @@
 -- The walk over a page, from one field to the next. Assumes nothing.
-use Rattle.std.proofs.Common.{◌≡◌, ℕ, zero, suc, ◌+◌, ◌<◌, ◌≤◌, min, List, [], ◌++◌, length, take, drop, IfOk, Some, None, Ok, Err, Option, Result, sym, refl, ap, ◌∙◌, subst, arith}
+use Rattle.std.proofs.Common.{◌≡◌, ℕ, zero, suc, ◌+◌, ◌<◌, ◌≤◌, min, List, [], ◌++◌, length, get_or, take, drop, IfSome, IfOk, Some, None, Ok, Err, Option, Result, sym, refl, ap, ◌∙◌, subst, arith}
 use Rattle.std.proofs.ByRecursion.{All-get_or}
 use Rattle.std.proofs.lemmas.List.{drop-drop, length-take-le, take-append-drop}
 use Rattle.std.proofs.lemmas.Bool.{cond-true, cond-false, lt-ltb, le-ltb}
+use Rattle.std.specs.List.{AllByRecursion as All}
 use Rattle.refusals.specs.declared.Refusal.{Refusal}
 use Rattle.tokens.specs.Looks.{no_token}
 use Rattle.tokens.specs.declared.Token.{Token}
@@ -12,7 +13,7 @@ use Rattle.pages.specs.Steps.{Held, step}
 use Rattle.pages.specs.declared.steps.Taken.{Taken}
 use Rattle.pages.specs.Taken.{items, rest, held, most, SameSpace, Stepped}
 use Rattle.pages.proofs.Keeping.{few, all_placed, nested}
-use Rattle.pages.proofs.Sound.{Sound, Placed, field_is, sound_more}
+use Rattle.pages.proofs.Sound.{Sound, Below, Placed, field_is, sound_more}
 use Rattle.pages.proofs.Took.{took, never}
 
 module _ (room : ℕ) (page : List ℕ) where
@@ -99,6 +100,14 @@ same_tokens s t e n = ap (λ (k : ℕ). take k t.space.now) n ∙ ap (take s.cou
 pub same_rest : (s t : Taken) → t.space.now ≡ s.space.now → t.count ≡ s.count → rest t ≡ rest s
 same_rest s t e n = ap (λ (k : ℕ). drop k t.space.now) n ∙ ap (drop s.count) e
 
+-- an opener that is still open is among the tokens, and its value behind its head
+placed : (page : List ℕ) (t : Taken) (inner : Option ℕ) → All (Placed page) (items t) → Below (length (items t)) inner → IfSome inner (λ p. (p < t.count) × (3 ≤ (get_or (items t) p no_token).start))
+placed page t None all below = tt
+placed page t (Some p) all below =
+    let number = many t in
+    let there : p < length (items t) = below in
+    (omega arith, (All-get_or (Placed page) (items t) p no_token there all).0)
+
 module _ (page : List ℕ) (first : Taken) (at : ℕ) (t : Taken) (w : Walked page first at t) where
   -- the outcome, by the field at this byte
   at_field : at < length page → (less : ℕ) × (w.left ≡ suc less) × (outcome (most first) page ≡ entered (most first) at (walk (most first) page less) (held t) (field_at page at))
@@ -132,3 +141,6 @@ module _ (page : List ℕ) (first : Taken) (at : ℕ) (t : Taken) (w : Walked pa
 
   pub finished : length page ≤ at → outcome (most first) page ≡ ended (held t)
   finished here = w.same ∙ over (most first) page w.left at (held t) here
+
+  pub still_open_lem : IfSome t.inner (λ p. (p < t.count) × (3 ≤ (get_or (items t) p no_token).start))
+  still_open_lem = placed page t t.inner w.sound.places w.sound.inner

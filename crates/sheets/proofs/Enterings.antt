@@ -70,6 +70,18 @@ module _ (s : State) (reading : Reading) (page : List ℕ) (k : ℕ) (structs : 
       → rules_of t ≡ rules_of s ++ x ∷ [] → t.totals.rules ≡ s.totals.rules + 1 → n ≡ s.totals.rules → Enters entry s t (Ok n)
   in_accepted t n x reads rules count number = subst (λ (o : Result Entry Refusal). Enters o s t (Ok n)) (sym opened) (accepted read t x n reads rules count number)
 
+-- what the reading of a level does is what the reading of the page's tokens does
+pub level_reads : (reading : Reading) (page page' : List ℕ) (ts ts' : List Token) (structs : Bool) (p e : ℕ) (N N' : List Node) (n₀ n n' : ℕ) (r : Result Rule Refusal)
+    → page' ≡ page → ts' ≡ ts → p ≡ 0 → e ≡ length ts → n₀ ≡ n
+    → Reads (whole e (read_task reading page' ts' (expr structs 0 p e))) N n₀ N' n' r
+    → Reads (whole (length ts) (read_expr reading page ts structs)) N n N' n' r
+level_reads reading page page' ts ts' structs p e N N' n₀ n n' r pages tokens start stop count reads =
+    subst (λ (x : ℕ). Reads (whole (length ts) (read_expr reading page ts structs)) N x N' n' r) count
+    (subst (λ (x : List ℕ). Reads (whole (length ts) (read_task reading x ts (expr structs 0 0 (length ts)))) N n₀ N' n' r) pages
+    (subst (λ (x : List Token). Reads (whole (length ts) (read_task reading page' x (expr structs 0 0 (length ts)))) N n₀ N' n' r) tokens
+    (subst (λ (x : ℕ). Reads (whole (length ts) (read_task reading page' ts' (expr structs 0 x (length ts)))) N n₀ N' n' r) start
+    (subst (λ (x : ℕ). Reads (whole x (read_task reading page' ts' (expr structs 0 p x))) N n₀ N' n' r) stop reads))))
+
 -- what is known once the page is read and the sheet has room
 pub record Opened (s : State) (page : List ℕ) (space after : List Token) (n : ℕ) : Type 0 where
   pub clean : fault_of (token_room space) page ≡ None

@@ -1,18 +1,19 @@
 -- Each call follows the model, and a sheet always stands for some model. Assumes nothing.
-use Rattle.std.proofs.Common.{◌≡◌, ℕ, ◌+◌, ◌<◌, ◌≤◌, Bool, ltb, List, [], ◌∷◌, ◌++◌, length, get_or, None, Ok, Err, Result, sym, refl, ap, ◌∙◌, subst, arith, length-append, length-take, get_or-take, lt-ltb}
+use Rattle.std.proofs.Common.{◌≡◌, ℕ, ◌+◌, ◌<◌, ◌≤◌, Bool, ltb, List, [], ◌∷◌, ◌++◌, length, get_or, take, None, Ok, Err, Result, sym, refl, ap, ◌∙◌, subst, arith, length-append, length-take, get_or-take, le-ltb, lt-ltb}
 use mathlib.Core.Logic.{∥∥₁_map, ∥∥₁_elim}
 use native.Mathlib.Bridge.{le_prop}
-use Rattle.std.proofs.lemmas.Bool.{cond-true}
+use Rattle.std.proofs.lemmas.Bool.{cond-true, cond-false}
 use Rattle.refusals.specs.declared.Part.{Part}
 use Rattle.refusals.specs.declared.Refusal.{Refusal}
+use Rattle.refusals.specs.declared.Refusal.TheVariants.{NotThere}
 use Rattle.tokens.specs.declared.Token.{Token}
 use Rattle.tokens.specs.Looks.{Field}
 use Rattle.trees.specs.declared.Node.{Node}
 use Rattle.trees.specs.Layout.{lay}
 use Rattle.hosts.specs.Lawful.{Lawful}
-use Rattle.lines.specs.Lines.{written}
+use Rattle.lines.specs.Lines.{heading_bytes, written}
 use Rattle.sheets.specs.declared.records.Rule.{Rule}
-use Rattle.sheets.specs.Model.{Reading, Model, Entry, Room, sizes, rule_at, entry_of, token_room, space_after, numbered, added, no_node, node_bytes, line_of, next_of, call_enter, says_number}
+use Rattle.sheets.specs.Model.{Reading, Model, Entry, Room, sizes, rule_at, entry_of, token_room, space_after, numbered, added, no_node, node_bytes, line_of, next_of, call_enter, call_totals, call_heading, call_line, says_number, says_totals, says_bytes}
 use Rattle.sheets.specs.States.{State, room_of, nodes_of, Short, Holds, Follows, Enters}
 use Rattle.sheets.proofs.Models.{sizes_more, nodes_more, rules_more}
 use Rattle.sheets.proofs.TokenRooms.{tokens_fit}
@@ -75,19 +76,65 @@ module _ (s t : State) (reading : Reading) (law : (p : Part) (l : List Field) �
       let f = enter_follows (space_after page space) refl in
       ∥∥₁_map k (λ x. (next_of (room_of s) x.0 (call_enter reading page space structs), f.next x.0 x.1))
 
--- no more nodes are in use than a sheet takes
+pub empty_held : (s : State) → s.totals.nodes ≡ 0 → s.totals.rules ≡ 0 → ∥ ((m : Model) × Holds s m) ∥₁
+empty_held s a b =
+    let none : nodes_of s ≡ [] = ap (λ (k : ℕ). take k s.nodes) a in
+    ∣ (
+      [],
+      record {
+        nodes = none;
+        rules = ap (λ (k : ℕ). take k s.rules) b;
+        many = a;
+        some = b;
+        within = omega arith;
+        below = omega arith;
+        short = subst Short (sym none) tt;
+      },
+    ) ∣₁
+
+-- no more nodes and rules are in use than a sheet takes
 pub nodes_fit : (s : State) → ∥ ((m : Model) × Holds s m) ∥₁ → s.totals.nodes ≤ (room_of s).nodes
 nodes_fit s k = ∥∥₁_elim k le_prop (λ x. omega (arith, x.1.many, x.1.within))
+
+pub rules_fit : (s : State) → ∥ ((m : Model) × Holds s m) ∥₁ → s.totals.rules ≤ (room_of s).rules
+rules_fit s k = ∥∥₁_elim k le_prop (λ x. omega (arith, x.1.some, x.1.below))
+
+pub totals_follows : (s : State) → Follows s call_totals (says_totals (s.totals.rules, s.totals.nodes)) s
+totals_follows s = record {
+  room = refl;
+  next = λ m held. held;
+  answer = λ m held. let a = held.some in let b = held.many in cc;
+}
+
+pub heading_follows : (s : State) (out : List ℕ) (r : Result ℕ Refusal × List ℕ) → r ≡ written (heading_bytes s.totals.rules s.totals.nodes) out → Follows s (call_heading out) (says_bytes r) s
+heading_follows s out r e = record {
+  room = refl;
+  next = λ m held. held;
+  answer = λ m held.
+      ap says_bytes (e ∙ ap (λ (k : ℕ). written (heading_bytes k s.totals.nodes) out) held.some ∙ ap (λ (k : ℕ). written (heading_bytes (length m) k) out) held.many);
+}
+
+pub line_follows : (s : State) (i : ℕ) (out : List ℕ) (r : Result ℕ Refusal × List ℕ) → r ≡ line_of (nodes_of s) i out → Follows s (call_line i out) (says_bytes r) s
+line_follows s i out r e = record {
+  room = refl;
+  next = λ m held. held;
+  answer = λ m held. ap says_bytes (e ∙ ap (λ (l : List Node). line_of l i out) held.nodes);
+}
 
 -- a node in use spans no token past the 4,096th
 pub spans_fit : (s : State) → ∥ ((m : Model) × Holds s m) ∥₁ → (i : ℕ) → ((get_or (nodes_of s) i no_node).label.from ≤ 4096) × ((get_or (nodes_of s) i no_node).label.to ≤ 4096)
 spans_fit s k i =
     (∥∥₁_elim k le_prop (λ x. (short_at (nodes_of s) i x.1.short).0), ∥∥₁_elim k le_prop (λ x. (short_at (nodes_of s) i x.1.short).1))
 
+-- the line of a node that is not there, and of one that is
+pub no_line : (s : State) (i : ℕ) (out : List ℕ) → s.totals.nodes ≤ i → line_of (nodes_of s) i out ≡ (Err NotThere, out)
+no_line s i out h =
+    let long = length-take s.totals.nodes s.nodes in
+    cond-false (ltb i (length (nodes_of s))) _ _ (le-ltb i (length (nodes_of s)) (omega arith))
+
 pub in_use : (s : State) (i : ℕ) (d : Node) → i < s.totals.nodes → get_or (nodes_of s) i d ≡ get_or s.nodes i d
 in_use s i d h = get_or-take s.totals.nodes s.nodes i d h
 
--- the line of a node that is there
 pub a_line : (s : State) (i : ℕ) (out : List ℕ) → ∥ ((m : Model) × Holds s m) ∥₁ → i < s.totals.nodes → line_of (nodes_of s) i out ≡ written (node_bytes i (get_or s.nodes i no_node)) out
 a_line s i out k h =
     let fit = nodes_fit s k in
