@@ -65,7 +65,7 @@ pub struct Spot {
 }
 
 impl Spot {
-    // A spot where an operand is to begin.
+    // A spot where an operand is to begin. The hint is one of those of `moves`.
     #[inline(always)]
     pub fn new(place: usize, scope: Scope) -> Spot
         ensures { result ≡ record { place = place; scope = scope; left = Left.Nothing } }
