@@ -1,5 +1,5 @@
 // What is to be done at a spot, and what a finished node does to the frame that waited for it. Pure decisions. The hints
-// make one function of a turn in the program: a spot, a frame or a move that is handed on by value is not copied then.
+// make one function of a turn in the program, which is faster than to hand spots, frames and moves from one to the next.
 ghost use Rattle.std.specs.Prelude.{◌≡◌, ◌+◌, ◌^◌, ◌<◌, ◌≤◌, Ok};
 ghost use Rattle.tokens.specs.Looks.{level_of};
 ghost use Rattle.grammar.specs.Grammar.{rank_by};
